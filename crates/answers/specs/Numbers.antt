@@ -1,0 +1,23 @@
+-- The numbers of the answers: document 01, "Questions asked, in this order".
+use Prim.Native.Nat.{ℕ}
+use mathlib.Core.Bool.{Bool, true, false}
+use Rattle.answers.specs.declared.Answer.{Answer}
+use Rattle.answers.specs.declared.Answer.the-variants.{Accepted, InvalidSequenceHeader, InvalidTileInfo, InvalidTrailingBits, WrongArguments, ShortBuffer}
+
+-- 0 is accepted, and each refusal has its number
+abbrev pub numberOf : Answer → ℕ
+numberOf Accepted = 0
+numberOf InvalidSequenceHeader = 1
+numberOf InvalidTileInfo = 2
+numberOf InvalidTrailingBits = 3
+numberOf WrongArguments = 4
+numberOf ShortBuffer = 5
+
+-- is it a refusal?
+abbrev pub isRefusal : Answer → Bool
+isRefusal Accepted = false
+isRefusal InvalidSequenceHeader = true
+isRefusal InvalidTileInfo = true
+isRefusal InvalidTrailingBits = true
+isRefusal WrongArguments = true
+isRefusal ShortBuffer = true

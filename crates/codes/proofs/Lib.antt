@@ -1,0 +1,5 @@
+pub mod Runs
+pub mod Callers
+pub mod Args
+pub mod Recenter
+pub mod Integers

@@ -1,0 +1,91 @@
+-- What callers may use of a reading: its value's bound, where it ends, its error, and what it depends on. Assumes nothing.
+use mathlib.Core.Path.{_≡_, refl, sym, _∙_, subst}
+use mathlib.Core.List.{List}
+use mathlib.Core.Bool.{Bool, true, false}
+use Prim.Native.Nat.{ℕ, zero, suc, _+_, _-_, _*_, _/_, _%_, _^_, _≤_, _<_, min}
+use native.Mathlib.Nat.{le-refl, add-zero}
+use native.Mathlib.Omega.{arith}
+use borrow.Author.Tests.{le-leb, lt-leb, leb-true, leb-false}
+use lib.Dec.{T, leb}
+use lib.IntN.{pos}
+use lib.ListN.{length}
+use lib.Pow.{pow-pos}
+use Rattle.getbits.specs.Bits.{bitAt, bitsAt, bitCount, position, placeAt, settled, refused, readBits, getBit, getBits, bytePos}
+use Rattle.getbits.specs.declared.Place.{Place}
+use Rattle.getbits.specs.declared.Number.{Number}
+use Rattle.getbits.proofs.Chain.{picked}
+use Rattle.getbits.proofs.Fields.{bits-lt}
+use Rattle.getbits.proofs.Places.{pos-le, pos-at}
+
+-- a width of at most 32 is read, and a larger one refused
+pub width-in : (s : List ℕ) (p : Place) (n : ℕ) → n ≤ 32 → readBits s p n ≡ getBits s p (pos n)
+unfolding getBits
+width-in s p n h = rw (le-leb n 32 h)
+
+pub width-over : (s : List ℕ) (p : Place) (n : ℕ) → 32 < n → refused s p ≡ getBits s p (pos n)
+unfolding getBits
+width-over s p n h = rw (lt-leb n 32 h)
+
+-- what read_bits answers at such a width is the reading
+pub as-read : (s : List ℕ) (p : Place) (n : ℕ) {r : Number} → n ≤ 32 → r ≡ getBits s p (pos n) → r ≡ readBits s p n
+as-read s p n h e = e ∙ sym (width-in s p n h)
+
+-- no bits: 0, and the place as it is
+pub read-none : (s : List ℕ) (p : Place) → readBits s p 0 ≡ record { value = 0; next = settled s p }
+unfolding readBits bitsAt
+read-none s p = rw (add-zero, le-leb (position s p) (bitCount s) (pos-le s p))
+
+-- a reading, with its question answered
+pub read-cases : (P : Number → Type 0) (s : List ℕ) (p : Place) (n : ℕ)
+    → (position s p + n ≤ bitCount s → P (record { value = bitsAt s (position s p) n; next = placeAt (position s p + n) (p .error) }))
+    → (bitCount s < position s p + n → P (record { value = 0; next = placeAt (bitCount s) true }))
+    → P (readBits s p n)
+unfolding readBits
+read-cases P s p n f g =
+    picked P (leb (position s p + n) (bitCount s))
+    (record { value = bitsAt s (position s p) n; next = placeAt (position s p + n) (p .error) })
+    (record { value = 0; next = placeAt (bitCount s) true })
+    (λ e. f (leb-true (position s p + n) (bitCount s) e))
+    (λ e. g (leb-false (position s p + n) (bitCount s) e))
+
+-- n bits read a number below 2 ^ n
+pub read-lt : (s : List ℕ) (p : Place) (n : ℕ) → readBits s p n .value < 2 ^ n
+read-lt s p n = read-cases (λ (r : Number). r .value < 2 ^ n) s p n (λ _. bits-lt s (position s p) n) (λ _. pow-pos n)
+
+pub bit-lt : (s : List ℕ) (p : Place) → getBit s p .value < 2
+unfolding getBit
+bit-lt s p = read-lt s p 1
+
+-- a reading ends n bits on, or at the end
+pub read-pos : (s : List ℕ) (p : Place) (n : ℕ) → position s (readBits s p n .next) ≡ min (position s p + n) (bitCount s)
+read-pos s p n =
+    read-cases (λ (r : Number). position s (r .next) ≡ min (position s p + n) (bitCount s)) s p n
+    (λ h. pos-at s (position s p + n) (p .error) h ∙ omega arith)
+    (λ h. pos-at s (bitCount s) true (le-refl (bitCount s)) ∙ omega arith)
+
+-- the error never clears
+pub read-error : (s : List ℕ) (p : Place) (n : ℕ) → p .error ≡ true → readBits s p n .next .error ≡ true
+read-error s p n e = read-cases (λ (r : Number). r .next .error ≡ true) s p n (λ h. e) (λ h. refl)
+
+-- no error after it means that there was none before and all n bits were there
+pub read-clean : (s : List ℕ) (p : Place) (n : ℕ) → readBits s p n .next .error ≡ false → (p .error ≡ false) × (position s p + n ≤ bitCount s)
+read-clean s p n =
+    read-cases (λ (r : Number). r .next .error ≡ false → (p .error ≡ false) × (position s p + n ≤ bitCount s)) s p n
+    (λ h e. (e, h))
+    (λ h e. absurd (subst T e tt))
+
+-- a place that counts as the end reads as the end does
+pub read-settled : (s : List ℕ) (p : Place) (n : ℕ) → readBits s (settled s p) n ≡ readBits s p n
+unfolding readBits
+read-settled s p n = rw (pos-at s (position s p) (p .error) (pos-le s p))
+
+-- the Rust's byte position is within the data
+pub byte-pos-le : (s : List ℕ) (p : Place) → bytePos s p ≤ length s
+unfolding bytePos
+byte-pos-le s p = omega (arith, pos-le s p)
+
+-- the same bits write the same number
+pub bits-local : (s t : List ℕ) (i n : ℕ) → ((k : ℕ) → k < n → bitAt s (i + k) ≡ bitAt t (i + k)) → bitsAt s i n ≡ bitsAt t i n
+unfolding bitsAt
+bits-local s t i zero h = refl
+bits-local s t i (suc n) h = rw (bits-local s t i n (λ k l. h k (omega arith)), h n (omega arith))

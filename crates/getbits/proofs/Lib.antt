@@ -1,0 +1,6 @@
+pub mod Chain
+pub mod Fields
+pub mod Places
+pub mod Callers
+pub mod Widths
+pub mod AllBits

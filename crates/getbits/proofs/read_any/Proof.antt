@@ -1,0 +1,35 @@
+use mathlib.Core.Path.{ap}
+use native.Mathlib.Omega.{arith}
+use borrow.Author.Needs.{needs}
+use Rattle.getbits.specs.declared.Place.{Place}
+use Rattle.getbits.proofs.Places.{pos-le, read-short, read-at}
+use Rattle.getbits.proofs.read_any.Statement.{statement}
+use Rattle.getbits.proofs.read_any.Tie as tie
+
+returns : tie.Need-returns
+returns c =
+    let k = c .before in
+    let a = k .before .before .args in
+    let at = k .settle .ensures .0 in
+    read-short (a .s .now) (a .p) (a .n) (omega (arith, ap (λ (x : Place). x .byte) at, ap (λ (x : Place). x .used) at, pos-le (a .s .now) (a .p)))
+
+returns-2 : tie.Need-returns-2
+returns-2 c =
+    let k = c .before .before in
+    let a = k .before .before .args in
+    read-at (a .s .now) (a .p) (k .settle .result) (a .n) (k .settle .ensures .0) (omega arith) (c .peek .ensures)
+
+pub read-any-spec : {M : Type 1} → statement M
+read-any-spec =
+    tie.close
+    (tie.spec
+    (λ c κs. search needs)
+    (λ c. search needs)
+    (λ c. search needs)
+    (λ c. search needs)
+    (λ c. search needs)
+    returns
+    (λ c κs. search needs)
+    (λ c. search needs)
+    (λ c. search needs)
+    returns-2)

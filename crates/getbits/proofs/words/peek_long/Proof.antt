@@ -1,0 +1,43 @@
+use mathlib.Core.Path.{_∙_, ap}
+use Prim.Native.Nat.{ℕ, _+_, _-_, _/_, _%_, _^_}
+use native.Mathlib.Omega.{arith}
+use borrow.Author.Needs.{needs}
+use Rattle.getbits.proofs.Fields.{word-field}
+use Rattle.getbits.proofs.words.peek_long.Statement.{statement}
+use Rattle.getbits.proofs.words.peek_long.Tie as tie
+
+returns : tie.Need-returns
+returns c =
+    let k = c .before .before .before .before in
+    let a = k .before .args in
+    c .field .ensures
+    ∙ ap (λ (w : ℕ). w / 2 ^ (64 - (a .used + a .n)) % 2 ^ a .n) (omega arith)
+    ∙ word-field (a .s .now) (a .byte) (a .used) (a .n) (λ i. omega (arith, k .shared-slice-known .given i)) (omega arith) (omega arith)
+
+returns-2 : tie.Need-returns-2
+returns-2 c =
+    let k = c .before .before .before .before in
+    let a = k .before .args in
+    c .field2 .ensures
+    ∙ ap (λ (w : ℕ). w / 2 ^ (64 - (a .used + a .n)) % 2 ^ a .n) (omega arith)
+    ∙ word-field (a .s .now) (a .byte) (a .used) (a .n) (λ i. omega (arith, k .shared-slice-known .given i)) (omega arith) (omega arith)
+
+pub peek-long-spec : {M : Type 1} → statement M
+peek-long-spec =
+    tie.close
+    (tie.spec
+    (λ c. search needs)
+    (λ c κs. search needs)
+    (λ c. search needs)
+    (λ c. search needs)
+    (λ c κs. search needs)
+    (λ c. search needs)
+    (λ c κs. search needs)
+    (λ c κs. search needs)
+    (λ c. search needs)
+    (λ c. search needs)
+    (λ c κs. search needs)
+    (λ c. search needs)
+    (λ c κs. search needs)
+    returns
+    returns-2)

@@ -1,0 +1,91 @@
+// The bits of a field, out of two bytes or eight: a constant number of loads, and no loop.
+ghost use mathlib.Core.Path.{_≡_};
+ghost use Prim.Native.Nat.{_+_, _*_, _-_, _/_, _%_, _^_, _<_, _≤_};
+ghost use lib.ListN.{length, getD};
+ghost use Rattle.getbits.specs.Bits.{bitsAt};
+ghost use Rattle.getbits.specs.Words.{half};
+
+pub fn wide(x: u8) -> u64
+    ensures { λ r. ⌜ (r ≡ x) × (r < 256) ⌝ }
+{
+    x as u64
+}
+
+// The byte at i, and 0 past the end.
+fn at(s: &[u8], i: usize) -> u64
+    ensures { λ r. ⌜ (r ≡ getD (now (s .entry)) i 0) × (r < 256) ⌝ }
+{
+    if i < s.len() { wide(s[i]) } else { 0 }
+}
+
+// Four bytes that are all there.
+fn half_within(s: &[u8], i: usize) -> u64
+    requires { ⌜ i + 4 ≤ length (now s) ⌝ }
+    ensures { λ r. ⌜ (r ≡ half (now (s .entry)) i) × (r < 2 ^ 32) ⌝ }
+{
+    wide(s[i]) * 0x100_0000 + wide(s[i + 1]) * 0x1_0000 + wide(s[i + 2]) * 0x100 + wide(s[i + 3])
+}
+
+// Four bytes, with 0 for those past the end.
+fn half_near_end(s: &[u8], i: usize) -> u64
+    requires { ⌜ i ≤ length (now s) + 4 ⌝ }
+    ensures { λ r. ⌜ (r ≡ half (now (s .entry)) i) × (r < 2 ^ 32) ⌝ }
+{
+    at(s, i) * 0x100_0000 + at(s, i + 1) * 0x1_0000 + at(s, i + 2) * 0x100 + at(s, i + 3)
+}
+
+// The n bits of the 16 bits of w behind its first `used` ones.
+pub fn short_field(w: u64, used: u32, n: u32) -> u32
+    requires { ⌜ (used < 8) × (n ≤ 8) ⌝ }
+    ensures { λ r. ⌜ r ≡ w / 2 ^ (16 - (used + n)) % 2 ^ n ⌝ }
+{
+    ((w >> (16 - (used + n))) % (1u64 << n)) as u32
+}
+
+// The n bits of the 64 bits of w behind its first `used` ones.
+fn field(w: u64, used: u32, n: u32) -> u32
+    requires { ⌜ (used < 8) × (n ≤ 32) ⌝ }
+    ensures { λ r. ⌜ r ≡ w / 2 ^ (64 - (used + n)) % 2 ^ n ⌝ }
+{
+    ((w >> 1 >> (63 - (used + n))) % (1u64 << n)) as u32
+}
+
+// At most 8 bits stand in two bytes.
+fn peek_short(s: &[u8], byte: usize, used: u32, n: u32) -> u32
+    requires { ⌜ (byte ≤ length (now s)) × (used < 8) × (n ≤ 8) ⌝ }
+    ensures { λ r. ⌜ r ≡ bitsAt (now (s .entry)) (8 * byte + used) n ⌝ }
+{
+    short_field(at(s, byte) * 256 + at(s, byte + 1), used, n)
+}
+
+// At most 32 bits stand in eight.
+fn peek_long(s: &[u8], byte: usize, used: u32, n: u32) -> u32
+    requires { ⌜ (byte ≤ length (now s)) × (used < 8) × (n ≤ 32) ⌝ }
+    ensures { λ r. ⌜ r ≡ bitsAt (now (s .entry)) (8 * byte + used) n ⌝ }
+{
+    if 8 <= s.len() - byte {
+        field(
+            half_within(s, byte) * 0x1_0000_0000 + half_within(s, byte + 4),
+            used,
+            n,
+        )
+    } else {
+        field(
+            half_near_end(s, byte) * 0x1_0000_0000 + half_near_end(s, byte + 4),
+            used,
+            n,
+        )
+    }
+}
+
+// The n bits behind the first `used` ones of the byte, with 0 for each past the end.
+pub fn peek(s: &[u8], byte: usize, used: u32, n: u32) -> u32
+    requires { ⌜ (byte ≤ length (now s)) × (used < 8) × (n ≤ 32) ⌝ }
+    ensures { λ r. ⌜ r ≡ bitsAt (now (s .entry)) (8 * byte + used) n ⌝ }
+{
+    if n <= 8 {
+        peek_short(s, byte, used, n)
+    } else {
+        peek_long(s, byte, used, n)
+    }
+}
