@@ -10,7 +10,7 @@ use lib.Dec.{T, leb}
 use lib.IntN.{pos}
 use lib.ListN.{length}
 use lib.Pow.{pow-pos}
-use Rattle.getbits.specs.Bits.{bitAt, bitsAt, bitCount, position, placeAt, settled, refused, readBits, getBit, getBits, bytePos}
+use Rattle.getbits.specs.Bits.{bitAt, bitsAt, bitCount, position, placeAt, settled, refused, runOut, readBits, getBit, getBits, bytePos}
 use Rattle.getbits.specs.declared.Place.{Place}
 use Rattle.getbits.specs.declared.Number.{Number}
 use Rattle.getbits.proofs.Chain.{picked}
@@ -35,16 +35,22 @@ pub read-none : (s : List ℕ) (p : Place) → readBits s p 0 ≡ record { value
 unfolding readBits bitsAt
 read-none s p = rw (add-zero, le-leb (position s p) (bitCount s) (pos-le s p))
 
+-- n bits that are there
+pub read-there : (s : List ℕ) (p : Place) (n : ℕ) → position s p + n ≤ bitCount s
+    → readBits s p n ≡ record { value = bitsAt s (position s p) n; next = placeAt (position s p + n) (p .error) }
+unfolding readBits
+read-there s p n h = rw (le-leb (position s p + n) (bitCount s) h)
+
 -- a reading, with its question answered
 pub read-cases : (P : Number → Type 0) (s : List ℕ) (p : Place) (n : ℕ)
     → (position s p + n ≤ bitCount s → P (record { value = bitsAt s (position s p) n; next = placeAt (position s p + n) (p .error) }))
-    → (bitCount s < position s p + n → P (record { value = 0; next = placeAt (bitCount s) true }))
+    → (bitCount s < position s p + n → P (runOut s))
     → P (readBits s p n)
 unfolding readBits
 read-cases P s p n f g =
     picked P (leb (position s p + n) (bitCount s))
     (record { value = bitsAt s (position s p) n; next = placeAt (position s p + n) (p .error) })
-    (record { value = 0; next = placeAt (bitCount s) true })
+    (runOut s)
     (λ e. f (leb-true (position s p + n) (bitCount s) e))
     (λ e. g (leb-false (position s p + n) (bitCount s) e))
 

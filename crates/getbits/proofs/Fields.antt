@@ -75,6 +75,7 @@ window s i u n r t e =
     let a : bitsAt s (8 * i) t ≡ bitsAt s (8 * i) (u + n) * 2 ^ r + bitsAt s (8 * i + (u + n)) r = ap (bitsAt s (8 * i)) (sym e) ∙ bits-add s (8 * i) (u + n) r in
     rw (a, high (bitsAt s (8 * i) (u + n)) r (bits-lt s (8 * i + (u + n)) r), bits-add s (8 * i) u n, low (bitsAt s (8 * i) u) n (bits-lt s (8 * i + u) n))
 
+-- a field of a word, and of two bytes, is the bits that stand there
 module _ (s : List ℕ) (i u n : ℕ) (b : (k : ℕ) → getD s k 0 < 256) (h : u < 8) where
   pub word-field : n ≤ 32 → word s i / 2 ^ (64 - (u + n)) % 2 ^ n ≡ bitsAt s (8 * i + u) n
   word-field k = ap (λ (x : ℕ). x / 2 ^ (64 - (u + n)) % 2 ^ n) (sym (word-bits s i b)) ∙ window s i u n (64 - (u + n)) 64 (omega arith)

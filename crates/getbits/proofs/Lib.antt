@@ -3,4 +3,3 @@ pub mod Fields
 pub mod Places
 pub mod Callers
 pub mod Widths
-pub mod AllBits

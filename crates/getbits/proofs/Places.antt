@@ -9,7 +9,7 @@ use native.Mathlib.Omega.{arith}
 use borrow.Author.Tests.{lt-ltb, le-ltb, le-leb, lt-leb}
 use lib.Dec.{ltb}
 use lib.ListN.{length, getD}
-use Rattle.getbits.specs.Bits.{bitAt, bitsAt, bitCount, position, placeAt, settled, readBits}
+use Rattle.getbits.specs.Bits.{bitAt, bitsAt, bitCount, position, placeAt, settled, runOut, readBits}
 use Rattle.getbits.specs.declared.Number.{Number}
 use Rattle.getbits.specs.declared.Place.{Place}
 use Rattle.getbits.proofs.Chain.{picked}
@@ -54,6 +54,9 @@ place-at b u k e f h =
 pub place-end : (s : List ℕ) (e : Bool) → record { byte = length s; used = 0; error = e } ≡ placeAt (bitCount s) e
 place-end s e = place-at (length s) 0 (bitCount s) e (omega arith) (omega arith)
 
+pub ran-out : (s : List ℕ) → record { value = 0; next = record { byte = length s; used = 0; error = true } } ≡ runOut s
+ran-out s = ap (λ (q : Place). record { value = 0; next = q }) (place-end s true)
+
 pub settled-in : (s : List ℕ) (p : Place) → p .byte < length s → p .used < 8 → p ≡ settled s p
 settled-in s p h k = place-at (p .byte) (p .used) (position s p) (p .error) (sym (pos-in s p h k)) k
 
@@ -70,10 +73,9 @@ read-in s p n {v} {b} {u} h e f g x =
     (ap (λ (q : Place). record { value = bitsAt s (position s p) n; next = q }) (place-at b u (position s p + n) (p .error) f g))
 
 -- n bits that are not all there
-pub read-short : (s : List ℕ) (p : Place) (n : ℕ) → bitCount s < position s p + n
-    → record { value = 0; next = record { byte = length s; used = 0; error = true } } ≡ readBits s p n
+pub read-short : (s : List ℕ) (p : Place) (n : ℕ) → bitCount s < position s p + n → runOut s ≡ readBits s p n
 unfolding readBits
-read-short s p n h = rw (lt-leb (position s p + n) (bitCount s) h) (ap (λ (q : Place). record { value = 0; next = q }) (place-end s true))
+read-short s p n h = rw (lt-leb (position s p + n) (bitCount s) h)
 
 -- one bit
 pub read-one : (s : List ℕ) (p : Place) {v b u : ℕ}

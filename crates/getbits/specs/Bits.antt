@@ -40,12 +40,16 @@ settled s p = placeAt (position s p) (p .error)
 abbrev pub refused : List ℕ → Place → Number
 refused s p = record { value = 0; next = placeAt (position s p) true }
 
--- n bits; if fewer remain, all are used up, the error is set and the answer is 0, not a padded value
+-- the bits run out: all are used up, the error is set, and the answer is 0
+abbrev pub runOut : List ℕ → Number
+runOut s = record { value = 0; next = placeAt (bitCount s) true }
+
+-- n bits; if fewer remain, they run out, and the answer is not a padded value
 unfoldable pub readBits : List ℕ → Place → ℕ → Number
 readBits s p n =
     pick (leb (position s p + n) (bitCount s))
     (record { value = bitsAt s (position s p) n; next = placeAt (position s p + n) (p .error) })
-    (record { value = 0; next = placeAt (bitCount s) true })
+    (runOut s)
 
 -- get_bit: one bit; at the end, 0 and error
 unfoldable pub getBit : List ℕ → Place → Number

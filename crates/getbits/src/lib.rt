@@ -3,7 +3,7 @@ ghost use mathlib.Core.Path.{_≡_};
 ghost use Prim.Native.Nat.{_+_, _*_, _-_, _^_, _<_, _≤_};
 ghost use lib.IntN.{pos, negsuc};
 ghost use lib.ListN.{length, drop};
-ghost use Rattle.getbits.specs.Bits.{settled, refused, readBits, getBit, getBits, signedOf, getSbits, bytePos, byteAlign, bitsIf, getFlag, flagIf};
+ghost use Rattle.getbits.specs.Bits.{settled, runOut, refused, readBits, getBit, getBits, signedOf, getSbits, bytePos, byteAlign, bitsIf, getFlag, flagIf};
 
 mod words;
 
@@ -56,31 +56,39 @@ pub fn has_error(p: Place) -> bool
     p.error
 }
 
-pub fn get_bit(s: &[u8], p: Place) -> Number
-    ensures { λ r. ⌜ r ≡ getBit (now (s .entry)) p ⌝ }
+// The answer where the bits run out.
+fn exhausted(s: &[u8]) -> Number
+    ensures { λ r. ⌜ r ≡ runOut (now (s .entry)) ⌝ }
 {
-    let byte = p.byte;
-    let used = p.used;
-    if byte < s.len() {
-        if used < 8 {
-            let b = s[byte] as u32;
-            let stop = used + 1;
-            return Number {
-                value: (b >> (7 - used)) % 2,
-                next: Place {
-                    byte: byte + (stop / 8) as usize,
-                    used: stop % 8,
-                    error: p.error,
-                },
-            };
-        }
-    }
     Number {
         value: 0,
         next: Place {
             byte: s.len(),
             used: 0,
             error: true,
+        },
+    }
+}
+
+pub fn get_bit(s: &[u8], p: Place) -> Number
+    ensures { λ r. ⌜ r ≡ getBit (now (s .entry)) p ⌝ }
+{
+    let byte = p.byte;
+    let used = p.used;
+    if s.len() <= byte {
+        return exhausted(s);
+    }
+    if 8 <= used {
+        return exhausted(s);
+    }
+    let b = s[byte] as u32;
+    let stop = used + 1;
+    Number {
+        value: (b >> (7 - used)) % 2,
+        next: Place {
+            byte: byte + (stop / 8) as usize,
+            used: stop % 8,
+            error: p.error,
         },
     }
 }
@@ -110,14 +118,7 @@ fn read_any(s: &[u8], p: Place, n: u32) -> Number
     let used = q.used;
     let stop = used + n;
     if s.len() - byte < ((stop + 7) / 8) as usize {
-        return Number {
-            value: 0,
-            next: Place {
-                byte: s.len(),
-                used: 0,
-                error: true,
-            },
-        };
+        return exhausted(s);
     }
     Number {
         value: peek(s, byte, used, n),

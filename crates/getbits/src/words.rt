@@ -50,16 +50,8 @@ fn field(w: u64, used: u32, n: u32) -> u32
     ((w >> 1 >> (63 - (used + n))) % (1u64 << n)) as u32
 }
 
-// At most 8 bits stand in two bytes.
-fn peek_short(s: &[u8], byte: usize, used: u32, n: u32) -> u32
-    requires { ⌜ (byte ≤ length (now s)) × (used < 8) × (n ≤ 8) ⌝ }
-    ensures { λ r. ⌜ r ≡ bitsAt (now (s .entry)) (8 * byte + used) n ⌝ }
-{
-    short_field(at(s, byte) * 256 + at(s, byte + 1), used, n)
-}
-
-// At most 32 bits stand in eight.
-fn peek_long(s: &[u8], byte: usize, used: u32, n: u32) -> u32
+// The n bits behind the first `used` ones of the byte, with 0 for each past the end: they stand in eight bytes.
+pub fn peek(s: &[u8], byte: usize, used: u32, n: u32) -> u32
     requires { ⌜ (byte ≤ length (now s)) × (used < 8) × (n ≤ 32) ⌝ }
     ensures { λ r. ⌜ r ≡ bitsAt (now (s .entry)) (8 * byte + used) n ⌝ }
 {
@@ -75,17 +67,5 @@ fn peek_long(s: &[u8], byte: usize, used: u32, n: u32) -> u32
             used,
             n,
         )
-    }
-}
-
-// The n bits behind the first `used` ones of the byte, with 0 for each past the end.
-pub fn peek(s: &[u8], byte: usize, used: u32, n: u32) -> u32
-    requires { ⌜ (byte ≤ length (now s)) × (used < 8) × (n ≤ 32) ⌝ }
-    ensures { λ r. ⌜ r ≡ bitsAt (now (s .entry)) (8 * byte + used) n ⌝ }
-{
-    if n <= 8 {
-        peek_short(s, byte, used, n)
-    } else {
-        peek_long(s, byte, used, n)
     }
 }

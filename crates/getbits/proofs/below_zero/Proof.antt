@@ -1,3 +1,4 @@
+-- `getbits::below_zero` meets its contract. Assumes nothing.
 use borrow.Author.Needs.{needs}
 use lib.IntN.{negsuc}
 use mir.Syntax.{w32}

@@ -1,4 +1,5 @@
-use mathlib.Core.Path.{ap}
+-- `getbits::read_any` meets its contract. Assumes nothing.
+use mathlib.Core.Path.{ap, _∙_}
 use native.Mathlib.Omega.{arith}
 use borrow.Author.Needs.{needs}
 use Rattle.getbits.specs.declared.Place.{Place}
@@ -8,10 +9,10 @@ use Rattle.getbits.proofs.read_any.Tie as tie
 
 returns : tie.Need-returns
 returns c =
-    let k = c .before in
+    let k = c .before .before in
     let a = k .before .before .args in
     let at = k .settle .ensures .0 in
-    read-short (a .s .now) (a .p) (a .n) (omega (arith, ap (λ (x : Place). x .byte) at, ap (λ (x : Place). x .used) at, pos-le (a .s .now) (a .p)))
+    c .exhausted .ensures ∙ read-short (a .s .now) (a .p) (a .n) (omega (arith, ap (λ (x : Place). x .byte) at, ap (λ (x : Place). x .used) at, pos-le (a .s .now) (a .p)))
 
 returns-2 : tie.Need-returns-2
 returns-2 c =
@@ -28,6 +29,7 @@ read-any-spec =
     (λ c. search needs)
     (λ c. search needs)
     (λ c. search needs)
+    (λ c κs. search needs)
     returns
     (λ c κs. search needs)
     (λ c. search needs)

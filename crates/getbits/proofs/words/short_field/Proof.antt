@@ -1,3 +1,4 @@
+-- `getbits::words::short_field` meets its contract. Assumes nothing.
 use native.Mathlib.Omega.{arith}
 use borrow.Author.Needs.{needs}
 use lib.Pow.{pow-pos}

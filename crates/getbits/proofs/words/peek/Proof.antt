@@ -1,10 +1,11 @@
+-- `getbits::words::peek` meets its contract. Assumes nothing.
 use mathlib.Core.Path.{_∙_, ap}
 use Prim.Native.Nat.{ℕ, _+_, _-_, _/_, _%_, _^_}
 use native.Mathlib.Omega.{arith}
 use borrow.Author.Needs.{needs}
 use Rattle.getbits.proofs.Fields.{word-field}
-use Rattle.getbits.proofs.words.peek_long.Statement.{statement}
-use Rattle.getbits.proofs.words.peek_long.Tie as tie
+use Rattle.getbits.proofs.words.peek.Statement.{statement}
+use Rattle.getbits.proofs.words.peek.Tie as tie
 
 returns : tie.Need-returns
 returns c =
@@ -22,8 +23,8 @@ returns-2 c =
     ∙ ap (λ (w : ℕ). w / 2 ^ (64 - (a .used + a .n)) % 2 ^ a .n) (omega arith)
     ∙ word-field (a .s .now) (a .byte) (a .used) (a .n) (λ i. omega (arith, k .shared-slice-known .given i)) (omega arith) (omega arith)
 
-pub peek-long-spec : {M : Type 1} → statement M
-peek-long-spec =
+pub peek-spec : {M : Type 1} → statement M
+peek-spec =
     tie.close
     (tie.spec
     (λ c. search needs)

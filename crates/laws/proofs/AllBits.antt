@@ -1,4 +1,4 @@
--- The other style: the data as a list of bits.
+-- The bits by position and the list of all bits agree. Assumes nothing.
 use mathlib.Core.Path.{_≡_, refl, sym, ap, _∙_}
 use mathlib.Core.List.{List, [], _∷_}
 use mathlib.Core.Logic.{⊎-elim}
@@ -8,18 +8,9 @@ use native.Mathlib.Numerals.{add-one}
 use native.Mathlib.Omega.{arith}
 use lib.ListN.{length, getD, take, drop}
 use lib.Seq.{drop-cons}
+use Rattle.laws.specs.AllBits.{allBits, numberOn}
 use Rattle.getbits.specs.Bits.{bitAt, bitsAt, bitCount}
 use Rattle.getbits.proofs.Fields.{window, bits-add, bits-one}
-
--- the bits of the data in a row
-unfoldable pub allBits : List ℕ → List ℕ
-allBits [] = []
-allBits (b ∷ s) = (b / 128 % 2) ∷ (b / 64 % 2) ∷ (b / 32 % 2) ∷ (b / 16 % 2) ∷ (b / 8 % 2) ∷ (b / 4 % 2) ∷ (b / 2 % 2) ∷ (b % 2) ∷ allBits s
-
--- the number that bits write, on top of m
-unfoldable pub numberOn : ℕ → List ℕ → ℕ
-numberOn m [] = m
-numberOn m (x ∷ l) = numberOn (2 * m + x) l
 
 -- the number of the whole data, of which a reading is a field
 pub closed : (s : List ℕ) (i n : ℕ) → i + n ≤ bitCount s → bitsAt s i n ≡ bitsAt s 0 (bitCount s) / 2 ^ (bitCount s - (i + n)) % 2 ^ n
@@ -48,7 +39,7 @@ unfolding allBits
 all-length [] = refl
 all-length (b ∷ s) = omega (arith, all-length s)
 
--- the two styles agree
+-- the n bits from bit i on are the number that the list has there, by take and drop
 pub taken : (s : List ℕ) (n i m : ℕ) → i + n ≤ bitCount s → numberOn m (take n (drop i (allBits s))) ≡ m * 2 ^ n + bitsAt s i n
 unfolding numberOn bitsAt
 taken s zero i m h = omega arith
@@ -61,3 +52,6 @@ taken s (suc n) i m h =
     ap (λ (x : ℕ). x * 2 ^ n) (mul-comm 2 m) ∙ mul-assoc m 2 (2 ^ n) ∙ ap (λ (x : ℕ). m * x) (mul-comm 2 (2 ^ n) ∙ sym (pow-suc 2 n)) in
     let p : (2 * m + bitAt s i) * 2 ^ n ≡ m * 2 ^ suc n + bitAt s i * 2 ^ n = add-mul (2 * m) (bitAt s i) (2 ^ n) ∙ ap (λ (x : ℕ). x + bitAt s i * 2 ^ n) q in
     rw (g, all-at s i) (taken s n (i + 1) (2 * m + bitAt s i) (omega arith) ∙ omega (arith, rw f at a, p)))
+
+pub by-list : (s : List ℕ) (i n : ℕ) → i + n ≤ bitCount s → bitsAt s i n ≡ numberOn 0 (take n (drop i (allBits s)))
+by-list s i n h = sym (taken s n i 0 h ∙ omega arith)

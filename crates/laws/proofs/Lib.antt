@@ -1,0 +1,2 @@
+pub mod AllBits
+pub mod Sound

@@ -1,0 +1,1 @@
+// No code: theorems about the definitions of the reader, for whoever reads or uses them.
