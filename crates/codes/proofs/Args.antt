@@ -6,12 +6,8 @@ use borrow.Author.Tests.{ltb-true, leb-true}
 use lib.Dec.{T, ltb, leb}
 use lib.IntN.{ℤ, pos, negsuc, natAbs}
 use lib.Signed.{leZ, ltZ, nonNeg}
+use Rattle.getbits.proofs.Chain.{both}
 use Rattle.codes.specs.Codes.{subexpArgs, subexpRange}
-
--- both tests hold
-pub both : (a b : Bool) → a && b ≡ true → (a ≡ true) × (b ≡ true)
-both true b h = (refl, h)
-both false b h = absurd (subst T (sym h) tt)
 
 -- a number from 0 to below m
 pub in-range : (z : ℤ) (m : ℕ) → leZ (pos 0) z && ltZ z (pos m) ≡ true → T (nonNeg z) × (natAbs z < m) × (pos (natAbs z) ≡ z)

@@ -2,8 +2,9 @@
 -- A proof that r is such a definition's value is  sym (through _ _ e₀ ∙ left _ _ _ e₁ ∙ ..)  with the code's facts e₀, e₁, .. in order.
 use Prim.Native.Nat.{ℕ, zero, suc, _+_}
 use native.Mathlib.Numerals.{add-one}
-use mathlib.Core.Path.{_≡_, refl, ap, sym}
-use mathlib.Core.Bool.{Bool, true, false}
+use mathlib.Core.Path.{_≡_, refl, ap, sym, subst}
+use mathlib.Core.Bool.{Bool, true, false, _&&_}
+use lib.Dec.{T}
 use Rattle.getbits.specs.Chain.{pick, then, turns}
 
 pub through : {A B : Type 0} (a : A) (f : A → B) {r : A} → r ≡ a → then a f ≡ f r
@@ -15,6 +16,11 @@ taken t a b e = rw e
 
 pub left : {A : Type 0} (t : Bool) (a b : A) → t ≡ false → pick t a b ≡ b
 left t a b e = rw e
+
+-- two tests that both hold
+pub both : (a b : Bool) → a && b ≡ true → (a ≡ true) × (b ≡ true)
+both true b h = (refl, h)
+both false b h = absurd (subst T (sym h) tt)
 
 -- what holds of both answers holds of the one picked
 pub picked : {A : Type 0} (P : A → Type 0) (t : Bool) (a b : A) → (t ≡ true → P a) → (t ≡ false → P b) → P (pick t a b)

@@ -1,0 +1,90 @@
+-- What is known of starts that never fall. Assumes nothing.
+use mathlib.Core.Path.{_≡_, refl, sym, ap, _∙_, subst}
+use mathlib.Core.Bool.{Bool, true, false, _&&_}
+use mathlib.Core.List.{List}
+use mathlib.Core.Logic.{⊎-elim}
+use Prim.Native.Nat.{ℕ, zero, suc, _+_, _*_, _/_, _^_, _≤_, _<_}
+use native.Mathlib.Nat.{mul-le-mul, mul-comm, div-lt-iff-lt-mul}
+use native.Mathlib.Numerals.{add-one}
+use native.Mathlib.Omega.{arith}
+use borrow.Author.Tests.{leb-true}
+use lib.Dec.{T, leb}
+use lib.ListN.{getD}
+use Rattle.getbits.proofs.Chain.{both}
+use Rattle.getbits.proofs.Places.{lt-or-le}
+use Rattle.tile_layout.specs.declared.TileInfo.{TileInfo}
+use Rattle.rectangles.specs.Rectangles.{rising, isCount, hasRectangles}
+
+-- one start more
+pub rising-more : (xs : List ℕ) (i : ℕ) {good : Bool} {a b : ℕ} → good ≡ rising xs i → a ≡ getD xs i 0 → b ≡ getD xs (i + 1) 0 → good && (leb a b && leb b 1024) ≡ rising xs (i + 1)
+unfolding rising
+rising-more xs i e f g = rw (e, f, g, add-one i)
+
+-- each start up to the closing one is at most 1,024, and the next is no smaller
+start-le : (xs : List ℕ) (n i : ℕ) → rising xs n ≡ true → i ≤ n → getD xs i 0 ≤ 1024
+unfolding rising
+start-le xs zero i h l = let e : i ≡ 0 = omega arith in rw e (leb-true (getD xs 0 0) 1024 h)
+start-le xs (suc n) i h l =
+    let w = both (rising xs n) (leb (getD xs n 0) (getD xs (suc n) 0) && leb (getD xs (suc n) 0) 1024) h in
+    ⊎-elim (λ k. start-le xs n i (w .0) (omega arith))
+    (λ k. let e : i ≡ suc n = omega arith in rw e (leb-true (getD xs (suc n) 0) 1024 (both (leb (getD xs n 0) (getD xs (suc n) 0)) (leb (getD xs (suc n) 0) 1024) (w .1) .1)))
+    (lt-or-le i (suc n))
+
+start-rises : (xs : List ℕ) (n i : ℕ) → rising xs n ≡ true → i < n → getD xs i 0 ≤ getD xs (i + 1) 0
+unfolding rising
+start-rises xs zero i h l = absurd (omega arith)
+start-rises xs (suc n) i h l =
+    let w = both (rising xs n) (leb (getD xs n 0) (getD xs (suc n) 0) && leb (getD xs (suc n) 0) 1024) h in
+    ⊎-elim (λ k. start-rises xs n i (w .0) k)
+    (λ k. let e : i ≡ n = omega arith in rw (e, add-one n) (leb-true (getD xs n 0) (getD xs (suc n) 0) (both (leb (getD xs n 0) (getD xs (suc n) 0)) (leb (getD xs (suc n) 0) 1024) (w .1) .0)))
+    (lt-or-le i n)
+
+-- what a tile's rectangle asks of the starts around it
+pub record Steps (xs : List ℕ) (i : ℕ) : Type 0 where
+  pub here : getD xs i 0 ≤ 1024
+  pub next : getD xs (i + 1) 0 ≤ 1024
+  pub rises : getD xs i 0 ≤ getD xs (i + 1) 0
+
+pub steps : (xs : List ℕ) (n i : ℕ) → rising xs n ≡ true → i < n → Steps xs i
+steps xs n i h l = record { here = start-le xs n i h (omega arith); next = start-le xs n (i + 1) h (omega arith); rises = start-rises xs n i h l }
+
+-- a product of a start, or of a difference of two, and a side
+pub samples-lt : (a s : ℕ) → a ≤ 1024 → s ≤ 256 → a * s < 2 ^ 32
+samples-lt a s h k = omega (arith, mul-le-mul h k)
+
+-- tile k of cols * rows, counted row by row, is in one of the rows
+pub row-lt : (k cols rows : ℕ) → 1 ≤ cols → k < cols * rows → k / cols < rows
+row-lt k cols rows h l = div-lt-iff-lt-mul h .1 (rw (mul-comm rows cols) l)
+
+-- a layout that has rectangles
+pub record Described (t : TileInfo) (code : ℕ) : Type 0 where
+  pub small-code : code ≤ 2
+  pub some-cols : 1 ≤ t .cols
+  pub most-cols : t .cols ≤ 64
+  pub some-rows : 1 ≤ t .rows
+  pub most-rows : t .rows ≤ 64
+  pub across : rising (t .«col_start_sb») (t .cols) ≡ true
+  pub down : rising (t .«row_start_sb») (t .rows) ≡ true
+
+pub described : (t : TileInfo) (code : ℕ) → hasRectangles t code ≡ true → Described t code
+unfolding hasRectangles
+described t code h =
+    let a = both (leb code 2) ((isCount (t .cols) && isCount (t .rows)) && (rising (t .«col_start_sb») (t .cols) && rising (t .«row_start_sb») (t .rows))) h in
+    let b = both (isCount (t .cols) && isCount (t .rows)) (rising (t .«col_start_sb») (t .cols) && rising (t .«row_start_sb») (t .rows)) (a .1) in
+    let n = both (isCount (t .cols)) (isCount (t .rows)) (b .0) in
+    let c = both (leb 1 (t .cols)) (leb (t .cols) 64) (n .0) in
+    let r = both (leb 1 (t .rows)) (leb (t .rows) 64) (n .1) in
+    let s = both (rising (t .«col_start_sb») (t .cols)) (rising (t .«row_start_sb») (t .rows)) (b .1) in
+    record {
+      small-code = leb-true code 2 (a .0);
+      some-cols = leb-true 1 (t .cols) (c .0);
+      most-cols = leb-true (t .cols) 64 (c .1);
+      some-rows = leb-true 1 (t .rows) (r .0);
+      most-rows = leb-true (t .rows) 64 (r .1);
+      across = s .0;
+      down = s .1;
+    }
+
+-- 64 columns of 64 rows
+pub tiles-le : (t : TileInfo) (code : ℕ) → hasRectangles t code ≡ true → t .cols * t .rows ≤ 4096
+tiles-le t code h = let d = described t code h in mul-le-mul (d .most-cols) (d .most-rows)

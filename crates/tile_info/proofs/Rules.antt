@@ -1,0 +1,116 @@
+-- What the two rules read and make is the definition's. Assumes nothing.
+use mathlib.Core.Path.{_≡_, refl, sym, _∙_, ap}
+use mathlib.Core.Bool.{true, false}
+use mathlib.Core.List.{List}
+use Prim.Native.Nat.{ℕ, _-_, _≤_}
+use native.Mathlib.Omega.{arith}
+use Rattle.answers.specs.declared.Answer.the-variants.{Accepted}
+use Rattle.getbits.specs.Chain.{then}
+use Rattle.getbits.specs.declared.Place.{Place}
+use Rattle.getbits.proofs.Chain.{through, taken, left}
+use Rattle.tile_layout.specs.declared.TileArgs.{TileArgs}
+use Rattle.tile_layout.specs.declared.TileInfo.{TileInfo}
+use Rattle.tile_layout.specs.Limits.{inDomain, sbw, sbh, widthLimit}
+use Rattle.tile_layout.specs.Layout.{readSizes, widest, over, readLog2, uniformCount, uniformEdges, uniformInfo, uniformLayout, rowLimit, invalidTileInfo, readCols, readRows, nonUniformInfo, nonUniformLayout}
+use Rattle.tile_layout.proofs.Domain.{domain, across, limits}
+use Rattle.tile_layout.proofs.Sized.{sizes-read, some-widest}
+use Rattle.tile_info.specs.declared.uniform.Log2.{Log2}
+use Rattle.tile_info.specs.declared.uniform.Starts.{Starts}
+use Rattle.tile_info.specs.declared.limits.FrameLimits.{FrameLimits}
+use Rattle.tile_info.specs.declared.nonuniform.Tiles.{Tiles}
+use Rattle.tile_info.specs.Inner.{Known, TilesOf}
+
+module _ (s : List ℕ) (p : Place) (old : TileInfo) {a : TileArgs} {k : FrameLimits} (n : Known a k) where
+  pub uniform-made : (c r : Log2) (m : ℕ) (x y : Starts)
+      → c .log2 ≡ readLog2 s p (k .«min_log2_cols») (k .«max_log2_cols») .value
+      → c .next ≡ readLog2 s p (k .«min_log2_cols») (k .«max_log2_cols») .next
+      → m ≡ k .«min_log2_tiles» - c .log2
+      → r .log2 ≡ readLog2 s (c .next) m (k .«max_log2_rows») .value
+      → r .next ≡ readLog2 s (c .next) m (k .«max_log2_rows») .next
+      → x .tiles ≡ uniformCount a (a .width) (c .log2) → x .starts ≡ over (uniformEdges a (a .width) (c .log2)) (old .«col_start_sb»)
+      → y .tiles ≡ uniformCount a (a .height) (r .log2) → y .starts ≡ over (uniformEdges a (a .height) (r .log2)) (old .«row_start_sb»)
+      → record {
+        answer = Accepted;
+        info =
+            record {
+              uniform = true;
+              «min_log2_cols» = k .«min_log2_cols»;
+              «max_log2_cols» = k .«max_log2_cols»;
+              «log2_cols» = c .log2;
+              cols = x .tiles;
+              «min_log2_rows» = m;
+              «max_log2_rows» = k .«max_log2_rows»;
+              «log2_rows» = r .log2;
+              rows = y .tiles;
+              «col_start_sb» = x .starts;
+              «row_start_sb» = y .starts;
+            };
+        next = r .next;
+      }
+      ≡ uniformLayout s p old a
+  unfolding uniformLayout uniformInfo then
+  uniform-made c r m x y cv cn em rv rn xt xs yt ys =
+      rw (xt, xs, yt, ys, rv, rn, em, cv, cn, n .min-cols, n .max-cols, n .max-rows, n .min-tiles) refl
+
+  -- the columns that a program reads
+  abbrev pub ReadCols : Tiles → Type 0
+  ReadCols c = TilesOf (readSizes 64 s p (k .sbw .0) (k .«max_tile_width_sb» .0)) (k .sbw .0) (old .«col_start_sb») c
+
+  cols : (c : Tiles) → ReadCols c → TilesOf (readCols s p a) (sbw a) (old .«col_start_sb») c
+  unfolding readCols
+  cols c z = rw (n .across, n .wide) at z
+
+  pub some-col : (c : Tiles) → inDomain a ≡ true → ReadCols c → 1 ≤ c .widest .0
+  unfolding readCols
+  some-col c e z =
+      let d = domain a e in
+      rw (cols c z .wides)
+      (some-widest (sizes-read 64 s p (sbw a) (widthLimit a) (omega (arith, limits a d .some))) (omega arith) (across a d .some))
+
+  pub cols-short : (c : Tiles) → ReadCols c → c .short ≡ true → invalidTileInfo old (c .next) ≡ nonUniformLayout s p old a
+  unfolding nonUniformLayout
+  cols-short c z e =
+      let w = cols c z in
+      sym (through _ _ refl ∙ taken _ _ _ (sym (w .left) ∙ e) ∙ ap (invalidTileInfo old) (sym (w .stands)))
+
+  -- the rows, behind columns that suffice
+  module _ (c r : Tiles) (h : ℕ) (z : ReadCols c) (e : c .short ≡ false) (eh : h ≡ rowLimit a (c .widest .0))
+      (y : TilesOf (readSizes 64 s (c .next) (k .sbh .0) h) (k .sbh .0) (old .«row_start_sb») r) where
+    rows : TilesOf (readRows s (readCols s p a) a) (sbh a) (old .«row_start_sb») r
+    unfolding readRows
+    rows = rw (eh, cols c z .wides, cols c z .stands, n .down) at y
+
+    pub rows-short : r .short ≡ true → invalidTileInfo old (r .next) ≡ nonUniformLayout s p old a
+    unfolding nonUniformLayout
+    rows-short f =
+        sym (
+        through _ _ refl ∙ left _ _ _ (sym (cols c z .left) ∙ e) ∙ through _ _ refl ∙ taken _ _ _ (sym (rows .left) ∙ f)
+        ∙ ap (invalidTileInfo old) (sym (rows .stands))
+        )
+
+    pub sized-made : r .short ≡ false
+        → record {
+          answer = Accepted;
+          info =
+              record {
+                uniform = false;
+                «min_log2_cols» = k .«min_log2_cols»;
+                «max_log2_cols» = k .«max_log2_cols»;
+                «log2_cols» = c .log2;
+                cols = c .tiles;
+                «min_log2_rows» = old .«min_log2_rows»;
+                «max_log2_rows» = k .«max_log2_rows»;
+                «log2_rows» = r .log2;
+                rows = r .tiles;
+                «col_start_sb» = c .starts;
+                «row_start_sb» = r .starts;
+              };
+          next = r .next;
+        }
+        ≡ nonUniformLayout s p old a
+    unfolding nonUniformLayout nonUniformInfo
+    sized-made f =
+        let w = cols c z in
+        let v = rows in
+        rw (n .min-cols, n .max-cols, n .max-rows, w .log, w .counted, w .stored, v .log, v .counted, v .stored, v .stands)
+        (sym (through _ _ refl ∙ left _ _ _ (sym (w .left) ∙ e) ∙ through _ _ refl ∙ left _ _ _ (sym (v .left) ∙ f)))

@@ -1,0 +1,126 @@
+-- The loop that reads sizes: what is done, and what is still to be read from here. Assumes nothing.
+use mathlib.Core.Path.{_≡_, refl, sym, _∙_, ap}
+use mathlib.Core.List.{List, [], _∷_, _++_, append-assoc, append-nil}
+use Prim.Native.Nat.{ℕ, zero, suc, _+_, _-_, min, max, _≤_, _<_}
+use native.Mathlib.Nat.{add-zero, sub-zero}
+use native.Mathlib.Omega.{arith}
+use lib.ListN.{length, set, length-append}
+use Rattle.getbits.specs.Chain.{then}
+use Rattle.getbits.specs.declared.Place.{Place}
+use Rattle.codes.specs.Codes.{getUniform}
+use Rattle.tile_layout.specs.Layout as layout
+use Rattle.tile_layout.specs.Layout.{readSizes, startsFrom, sum, widest, over}
+use Rattle.tile_layout.proofs.Laws.{grow}
+use Rattle.tile_layout.proofs.Sized.{length-starts}
+use Rattle.tile_info.specs.declared.nonuniform.Sizes.{Sizes}
+use Rattle.tile_info.specs.Inner.{SizesOf}
+
+sum-more : (xs : List ℕ) (v : ℕ) → sum (xs ++ (v ∷ [])) ≡ sum xs + v
+unfolding sum
+sum-more [] v = omega arith
+sum-more (x ∷ xs) v = omega (arith, sum-more xs v)
+
+widest-more : (xs : List ℕ) (v : ℕ) → widest (xs ++ (v ∷ [])) ≡ max (widest xs) v
+unfolding widest
+widest-more [] v = omega arith
+widest-more (x ∷ xs) v = omega (arith, widest-more xs v)
+
+starts-more : (xs : List ℕ) (at v : ℕ) → startsFrom at (xs ++ (v ∷ [])) ≡ startsFrom at xs ++ ((at + sum xs) ∷ [])
+unfolding startsFrom sum
+starts-more [] at v = ap (λ (k : ℕ). k ∷ []) (sym (add-zero at))
+starts-more (x ∷ xs) at v =
+    let q : at + x + sum xs ≡ at + (x + sum xs) = omega arith in
+    ap (_∷_ at) (starts-more xs (at + x) v ∙ ap (λ (k : ℕ). startsFrom (at + x) xs ++ (k ∷ [])) q)
+
+-- sizes, and further ones behind them
+abbrev behind : List ℕ → layout.Sizes → layout.Sizes
+behind xs z = record { sizes = xs ++ z .sizes; next = z .next }
+
+-- the first size, and the sizes behind it
+unroll : (most : ℕ) (s : List ℕ) (p : Place) (remains limit : ℕ) → 1 ≤ remains
+    → let g = getUniform s p (min remains limit) in
+    readSizes (suc most) s p remains limit ≡ behind ((g .value + 1) ∷ []) (readSizes most s (g .next) (remains - (g .value + 1)) limit)
+unfolding readSizes then
+unroll most s p zero limit h = absurd (omega arith)
+unroll most s p (suc n) limit h = refl
+
+nothing-left : (most : ℕ) (s : List ℕ) (p : Place) (limit : ℕ) → readSizes most s p 0 limit ≡ record { sizes = []; next = p }
+unfolding readSizes
+nothing-left zero s p limit = refl
+nothing-left (suc most) s p limit = refl
+
+no-more : (s : List ℕ) (p : Place) (remains limit : ℕ) → readSizes 0 s p remains limit ≡ record { sizes = []; next = p }
+unfolding readSizes
+no-more s p remains limit = refl
+
+module _ (s : List ℕ) (total limit : ℕ) (start : Place) (old : List ℕ) where
+  -- n tiles are done, with x superblocks, and the array holds their starts
+  pub record Walked (at : List ℕ) (p : Place) (x n wide : ℕ) : Type 0 where
+    pub done : List ℕ
+    pub all : readSizes 64 s start total limit ≡ behind done (readSizes (64 - n) s p (total - x) limit)
+    pub tiles : n ≡ length done
+    pub summed : x ≡ sum done
+    pub wides : wide ≡ widest done
+    pub stored : at ≡ over (startsFrom 0 done) old
+    pub inside : x ≤ total
+    pub few : n ≤ 64
+
+  pub walk-start : (x wide : ℕ) → x ≡ 0 → wide ≡ 0 → Walked old start x 0 wide
+  unfolding sum widest startsFrom
+  walk-start x wide e f =
+      rw (e, f)
+      (record {
+        done = [];
+        all = ap (λ (k : ℕ). readSizes 64 s start k limit) (sym (sub-zero total));
+        tiles = refl;
+        summed = refl;
+        wides = refl;
+        stored = refl;
+        inside = omega arith;
+        few = omega arith;
+      })
+
+  -- one size more, z, as the program has it
+  pub walk-next : {at : List ℕ} {p q : Place} {x n wide z v y r : ℕ} → Walked at p x n wide → x < total → n < 64 → n < length old
+      → r ≡ total - x → z ≡ getUniform s p (min r limit) .value + 1 → q ≡ getUniform s p (min r limit) .next → z ≤ r → v ≡ x → y ≡ max wide z
+      → Walked (set at n v) q (x + z) (n + 1) y
+  walk-next {at} {p} {q} {x} {n} {wide} {z} {v} {y} {r} w h k l er ez eq zr ev ey =
+      let f : 64 - n ≡ suc (64 - (n + 1)) = omega arith in
+      let j : r - z ≡ total - (x + z) = omega arith in
+      record {
+        done = w .done ++ (z ∷ []);
+        all =
+            w .all
+            ∙ ap (λ (m : ℕ). behind (w .done) (readSizes m s p (total - x) limit)) f
+            ∙ ap (λ (m : ℕ). behind (w .done) (readSizes (suc (64 - (n + 1))) s p m limit)) (sym er)
+            ∙ ap (behind (w .done)) (unroll (64 - (n + 1)) s p r limit (omega arith))
+            ∙ rw (← ez, ← eq, j, append-assoc) refl;
+        tiles = omega (arith, w .tiles, length-append (w .done) (z ∷ []));
+        summed = omega (arith, w .summed, sum-more (w .done) z);
+        wides = omega (arith, w .wides, widest-more (w .done) z);
+        stored =
+            let g : v ≡ 0 + sum (w .done) = omega (arith, w .summed) in
+            ap (λ (t : List ℕ). set t n v) (w .stored)
+            ∙ grow (startsFrom 0 (w .done)) old n v (length-starts (w .done) 0 ∙ sym (w .tiles)) l
+            ∙ ap (λ (t : List ℕ). over t old) (ap (λ (m : ℕ). startsFrom 0 (w .done) ++ (m ∷ [])) g ∙ sym (starts-more (w .done) 0 z));
+        inside = omega arith;
+        few = omega arith;
+      }
+
+  -- the loop is left: what was done is what is read
+  ended : (r : Sizes) (w : Walked (r .starts) (r .next) (r .sum .0) (r .tiles) (r .widest .0))
+      → readSizes (64 - r .tiles) s (r .next) (total - r .sum .0) limit ≡ record { sizes = []; next = r .next }
+      → SizesOf (readSizes 64 s start total limit) old r
+  ended r w e =
+      rw (w .all ∙ ap (behind (w .done)) e ∙ ap (λ (t : List ℕ). record { sizes = t; next = r .next }) (append-nil (w .done)))
+      (record { counted = w .tiles; summed = w .summed; wides = w .wides; stands = refl; stored = w .stored; few = w .few })
+
+  pub all-done : (r : Sizes) → Walked (r .starts) (r .next) (r .sum .0) (r .tiles) (r .widest .0) → total ≤ r .sum .0 → SizesOf (readSizes 64 s start total limit) old r
+  all-done r w h =
+      let q : total - r .sum .0 ≡ 0 = omega arith in
+      ended r w (rw q (nothing-left (64 - r .tiles) s (r .next) limit))
+
+  pub all-used : (r : Sizes) → Walked (r .starts) (r .next) (r .sum .0) (r .tiles) (r .widest .0) → 64 ≤ r .tiles → SizesOf (readSizes 64 s start total limit) old r
+  all-used r w h =
+      let q : 64 - r .tiles ≡ 0 = omega arith in
+      ended r w (rw q (no-more s (r .next) (total - r .sum .0) limit))

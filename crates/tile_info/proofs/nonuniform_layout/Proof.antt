@@ -1,0 +1,57 @@
+-- `tile_info::nonuniform_layout` meets its contract. Assumes nothing.
+use mathlib.Core.Path.{_∙_}
+use native.Mathlib.Omega.{arith}
+use borrow.Author.Needs.{needs}
+use Rattle.tile_info.proofs.Rules.{cols-short, some-col, rows-short, sized-made}
+use Rattle.tile_layout.proofs.Domain.{domain, across, down, limits}
+use Rattle.tile_layout.specs.Layout.{rowLimit}
+use Rattle.tile_info.proofs.nonuniform_layout.Statement.{statement}
+use Rattle.tile_info.proofs.nonuniform_layout.Tie as tie
+
+read-tiles-requires : tie.Need-read-tiles-requires
+read-tiles-requires c κs =
+    let d = domain (c .before .before .args .a) (c .before .before .pre .0) in
+    (omega (arith, c .before .before .pre .1 .across, across _ d .most-all), omega (arith, c .before .before .pre .1 .wide, limits _ d .some))
+
+returns : tie.Need-returns
+returns c =
+    let s = c .before .before .before .before .before in
+    c .invalid-tile-info .ensures
+    ∙ cols-short (s .args .s .now) (s .args .p) (s .args .thdr) (s .pre .1) (c .before .before .read-tiles .result) (c .before .before .read-tiles .ensures) (c .before .if1 .taken)
+
+max-tile-height-sb-requires : tie.Need-max-tile-height-sb-requires
+max-tile-height-sb-requires c κs =
+    let s = c .before .before .before .before .before in
+    (s .pre .0, (s .pre .1, some-col (s .args .s .now) (s .args .p) (s .args .thdr) (s .pre .1) (c .before .before .read-tiles .result) (s .pre .0) (c .before .before .read-tiles .ensures)))
+
+read-tiles-requires-2 : tie.Need-read-tiles-requires-2
+unfolding rowLimit
+read-tiles-requires-2 c κs =
+    let d = domain (c .before .before .before .before .before .before .args .a) (c .before .before .before .before .before .before .pre .0) in
+    (omega (arith, c .before .before .before .before .before .before .pre .1 .down, down _ d .most-all), omega (arith, c .max-tile-height-sb .ensures))
+
+returns-2 : tie.Need-returns-2
+returns-2 c =
+    let s = c .before .before .before .before .before .before .before .before .before in
+    c .invalid-tile-info2 .ensures
+    ∙ rows-short (s .args .s .now) (s .args .p) (s .args .thdr) (s .pre .1) (c .before .before .before .before .before .before .read-tiles .result) (c .before .before .read-tiles2 .result) _ (c .before .before .before .before .before .before .read-tiles .ensures) (c .before .before .before .before .before .if1 .left)
+    (c .before .before .before .max-tile-height-sb .ensures) (c .before .before .read-tiles2 .ensures) (c .before .if2 .taken)
+
+returns-3 : tie.Need-returns-3
+returns-3 c =
+    let s = c .before .before .before .before .before .before .before .before .before .before .before in
+    sized-made (s .args .s .now) (s .args .p) (s .args .thdr) (s .pre .1) (c .before .before .before .before .before .before .before .before .read-tiles .result) (c .before .before .before .before .read-tiles2 .result) _ (c .before .before .before .before .before .before .before .before .read-tiles .ensures) (c .before .before .before .before .before .before .before .if1 .left)
+    (c .before .before .before .before .before .max-tile-height-sb .ensures) (c .before .before .before .before .read-tiles2 .ensures) (c .before .before .before .if2 .left)
+
+pub nonuniform-layout-spec : {M : Type 1} → statement M
+nonuniform-layout-spec =
+    tie.close
+    (tie.spec
+    read-tiles-requires
+    (λ c κs. search needs)
+    returns
+    max-tile-height-sb-requires
+    read-tiles-requires-2
+    (λ c κs. search needs)
+    returns-2
+    returns-3)

@@ -1,0 +1,41 @@
+-- What the private functions answer. No public contract cites it.
+use mathlib.Core.Path.{_≡_}
+use mathlib.Core.List.{List}
+use Prim.Native.Nat.{ℕ, _≤_}
+use lib.Dec.{ltb}
+use lib.ListN.{length}
+use Rattle.tile_layout.specs.declared.TileArgs.{TileArgs}
+use Rattle.tile_layout.specs.Limits.{sbw, sbh, widthLimit, tileLog2, minLog2Cols, maxLog2Cols, maxLog2Rows, minLog2Tiles}
+use Rattle.tile_layout.specs.Layout as layout
+use Rattle.tile_layout.specs.Layout.{sum, widest, startsFrom, nonUniformEdges, over}
+use Rattle.tile_info.specs.declared.limits.FrameLimits.{FrameLimits}
+use Rattle.tile_info.specs.declared.nonuniform.Sizes.{Sizes}
+use Rattle.tile_info.specs.declared.nonuniform.Tiles.{Tiles}
+
+-- k has the numbers of the arguments a
+pub record Known (a : TileArgs) (k : FrameLimits) : Type 0 where
+  pub across : k .sbw .0 ≡ sbw a
+  pub down : k .sbh .0 ≡ sbh a
+  pub wide : k .«max_tile_width_sb» .0 ≡ widthLimit a
+  pub min-cols : k .«min_log2_cols» ≡ minLog2Cols a
+  pub max-cols : k .«max_log2_cols» ≡ maxLog2Cols a
+  pub max-rows : k .«max_log2_rows» ≡ maxLog2Rows a
+  pub min-tiles : k .«min_log2_tiles» ≡ minLog2Tiles a
+
+-- the sizes z, with their starts over the old ones
+pub record SizesOf (z : layout.Sizes) (old : List ℕ) (r : Sizes) : Type 0 where
+  pub counted : r .tiles ≡ length (z .sizes)
+  pub summed : r .sum .0 ≡ sum (z .sizes)
+  pub wides : r .widest .0 ≡ widest (z .sizes)
+  pub stands : r .next ≡ z .next
+  pub stored : r .starts ≡ over (startsFrom 0 (z .sizes)) old
+  pub few : r .tiles ≤ 64
+
+-- the sizes z, closed at `total`
+pub record TilesOf (z : layout.Sizes) (total : ℕ) (old : List ℕ) (r : Tiles) : Type 0 where
+  pub counted : r .tiles ≡ length (z .sizes)
+  pub log : r .log2 ≡ tileLog2 1 (length (z .sizes))
+  pub left : r .short ≡ ltb (sum (z .sizes)) total
+  pub wides : r .widest .0 ≡ widest (z .sizes)
+  pub stands : r .next ≡ z .next
+  pub stored : r .starts ≡ over (nonUniformEdges (z .sizes) total) old

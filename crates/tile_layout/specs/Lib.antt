@@ -1,0 +1,3 @@
+pub mod Limits
+pub mod Layout
+pub mod Demand3

@@ -1,0 +1,56 @@
+// The records of a tile layout.
+ghost use mathlib.Core.Path.{_≡_};
+ghost use Rattle.tile_layout.specs.Limits.{noTileInfo};
+use answers::Answer;
+use getbits::Place;
+
+// Starts are counted in the frame's superblocks; the entry behind the last start closes the layout.
+pub struct TileInfo {
+    pub uniform: bool,
+    pub min_log2_cols: u8,
+    pub max_log2_cols: u8,
+    pub log2_cols: u8,
+    pub cols: u8,
+    pub min_log2_rows: u8,
+    pub max_log2_rows: u8,
+    pub log2_rows: u8,
+    pub rows: u8,
+    pub col_start_sb: [u16; 65],
+    pub row_start_sb: [u16; 65],
+}
+
+// What a layout is read for.
+pub struct TileArgs {
+    pub multiplier: u32,
+    pub frame_code: u8,
+    pub seq_code: u8,
+    pub width: u32,
+    pub height: u32,
+    pub level: u8,
+    pub tier: u8,
+}
+
+// The answer, the layout with it and the place after the reading. A refusal has the layout that was given.
+pub struct TileRead {
+    pub answer: Answer,
+    pub info: TileInfo,
+    pub next: Place,
+}
+
+pub fn no_tile_info() -> TileInfo
+    ensures { λ r. ⌜ r ≡ noTileInfo ⌝ }
+{
+    TileInfo {
+        uniform: false,
+        min_log2_cols: 0,
+        max_log2_cols: 0,
+        log2_cols: 0,
+        cols: 0,
+        min_log2_rows: 0,
+        max_log2_rows: 0,
+        log2_rows: 0,
+        rows: 0,
+        col_start_sb: [0; 65],
+        row_start_sb: [0; 65],
+    }
+}
