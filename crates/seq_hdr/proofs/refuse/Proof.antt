@@ -1,0 +1,19 @@
+-- `seq_hdr::refuse` meets its contract. Assumes nothing.
+use mathlib.Core.Path.{sym}
+use borrow.Author.Needs.{needs}
+use Rattle.getbits.proofs.Chain.{}
+use Rattle.seq_hdr.specs.Header.{refused}
+use Rattle.seq_hdr.proofs.refuse.Statement.{statement}
+use Rattle.seq_hdr.proofs.refuse.Tie as tie
+
+returns : tie.Need-returns
+unfolding refused
+returns c =
+    sym (sym (simp (c .no-seq-hdr .ensures)))
+
+pub refuse-spec : {M : Type 1} → statement M
+refuse-spec =
+    tie.close
+    (tie.spec
+    (λ c κs. search needs)
+    returns)

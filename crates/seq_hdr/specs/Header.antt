@@ -1,0 +1,98 @@
+-- The sequence header: document 01, parse_seq_hdr, and "Questions asked, in this order".
+use Prim.Native.Nat.{ℕ, _%_}
+use mathlib.Core.List.{List}
+use mathlib.Core.Bool.{Bool, true, false, not, _||_}
+use lib.Dec.{ltb, leb, eqb}
+use Rattle.answers.specs.Numbers.{isRefusal}
+use Rattle.answers.specs.declared.Answer.{Answer}
+use Rattle.answers.specs.declared.Answer.the-variants.{Accepted, InvalidSequenceHeader, InvalidTileInfo, InvalidTrailingBits}
+use Rattle.getbits.specs.Bits.{getFlag}
+use Rattle.getbits.specs.Chain.{pick, then}
+use Rattle.getbits.specs.declared.Place.{Place}
+use Rattle.codes.specs.Codes.{getVlc}
+use Rattle.seq_fields.specs.Fields.{getSmall}
+use Rattle.seq_fields.specs.declared.PixelLayout.{PixelLayout}
+use Rattle.seq_fields.specs.declared.PixelLayout.the-variants.{I400, I420, I422, I444}
+use Rattle.seq_picture.specs.Level.{readLevel, readFormat}
+use Rattle.seq_picture.specs.Picture.{readPicture}
+use Rattle.seq_blocks.specs.Blocks.{readBlocks}
+use Rattle.seq_inter.specs.Refs.{readMotion, readRefFrames}
+use Rattle.seq_inter.specs.Inter.{readInter}
+use Rattle.seq_residual.specs.Residual.{readResidual}
+use Rattle.seq_residual.specs.Filters.{readFilters}
+use Rattle.seq_record.specs.Zero.{noSeqHdr}
+use Rattle.seq_record.specs.declared.SequenceHeader.{SequenceHeader}
+use Rattle.seq_hdr.specs.Tiling.{readTiling}
+use Rattle.seq_hdr.specs.declared.StartRead.{StartRead}
+use Rattle.seq_hdr.specs.declared.SeqRead.{SeqRead}
+
+-- the id, cut to eight bits, and the profile
+unfoldable pub readStart : List ℕ → Place → StartRead
+readStart s p =
+    then (getVlc s p) λ id.
+    then (getSmall s (id .next) 5) λ profile.
+    record { fields = record { id = id .value % 256; profile = profile .value }; next = profile .next }
+
+-- is the profile neither at most 8 nor 31?
+abbrev pub unknownProfile : ℕ → Bool
+unknownProfile n = not (leb n 8 || eqb n 31)
+
+-- is the layout without chroma?
+abbrev pub isMono : PixelLayout → Bool
+isMono I400 = true
+isMono I420 = false
+isMono I422 = false
+isMono I444 = false
+
+-- a refused sequence answers the zero record
+unfoldable pub refused : Answer → Place → SeqRead
+refused answer p = record { answer = answer; hdr = noSeqHdr; next = p }
+
+-- strict only: after the extension bit, is there a further bit, and is it 1? The extension's content is not skipped
+unfoldable pub checkTrailingBits : Bool → SequenceHeader → List ℕ → Place → SeqRead
+checkTrailingBits strict hdr s p =
+    pick (not strict) (record { answer = Accepted; hdr = hdr; next = p }) (
+    then (getFlag s p) λ extension.
+    then (getFlag s (extension .next)) λ one.
+    pick (one .next .error || not (one .value)) (refused InvalidTrailingBits (one .next))
+    (record { answer = Accepted; hdr = hdr; next = one .next }))
+
+-- parse_seq_hdr
+unfoldable pub parseSeqHdr : List ℕ → Place → Bool → SeqRead
+parseSeqHdr s p strict =
+    then (readStart s p) λ start.
+    pick (unknownProfile (start .fields .profile)) (refused InvalidSequenceHeader (start .next)) (
+    then (readLevel s (start .next)) λ level.
+    pick (ltb 3 (level .«layout_idx»)) (refused InvalidSequenceHeader (level .next)) (
+    then (readFormat (level .«layout_idx») s (level .next)) λ format.
+    pick (ltb 2 (format .«depth_idx»)) (refused InvalidSequenceHeader (format .next)) (
+    then (isMono (format .fields .layout)) λ mono.
+    then (level .fields .«reduced_still_picture_header») λ reduced.
+    then (readPicture reduced s (format .next)) λ picture.
+    then (readBlocks mono reduced s (picture .next)) λ blocks.
+    then (readMotion reduced s (blocks .next)) λ motion.
+    then (readRefFrames reduced s (motion .next)) λ refs.
+    pick (ltb 8 (refs .fields .«ref_frames»)) (refused InvalidSequenceHeader (refs .next)) (
+    then (readInter reduced s (refs .next)) λ inter.
+    then (readResidual mono reduced s (inter .next)) λ residual.
+    then (blocks .fields .partition .sb128) λ sb128.
+    then (readFilters reduced sb128 s (residual .next)) λ filters.
+    then (readTiling sb128 (picture .fields .size) (level .fields) s (filters .next)) λ tiling.
+    pick (isRefusal (tiling .answer)) (refused InvalidTileInfo (tiling .next)) (
+    then (getFlag s (tiling .next)) λ grain.
+    pick (grain .next .error) (refused InvalidSequenceHeader (grain .next)) (
+    then (record {
+      start = start .fields;
+      level = level .fields;
+      format = format .fields;
+      picture = picture .fields;
+      blocks = blocks .fields;
+      motion = motion .fields;
+      refs = refs .fields;
+      inter = inter .fields;
+      residual = residual .fields;
+      filters = filters .fields;
+      tiling = tiling .fields;
+      «film_grain_present» = grain .value;
+    }) λ hdr.
+    checkTrailingBits strict hdr s (grain .next)))))))

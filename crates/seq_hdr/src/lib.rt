@@ -1,0 +1,241 @@
+// The sequence header.
+ghost use mathlib.Core.Path.{_≡_};
+ghost use lib.Dec.{ltb};
+ghost use Rattle.seq_hdr.specs.Tiling.{tileInfoIf, readTiling};
+ghost use Rattle.seq_hdr.specs.Header.{readStart, unknownProfile, isMono, refused, checkTrailingBits, parseSeqHdr};
+use answers::Answer;
+use answers::is_refusal;
+use codes::get_vlc;
+use getbits::Place;
+use getbits::flag_if;
+use getbits::get_flag;
+use seq_blocks::read_blocks;
+use seq_fields::PixelLayout;
+use seq_fields::adaptive_or;
+use seq_fields::get_small;
+use seq_inter::read_inter;
+use seq_inter::read_motion;
+use seq_inter::read_ref_frames;
+use seq_picture::FrameSize;
+use seq_picture::Level;
+use seq_picture::read_format;
+use seq_picture::read_level;
+use seq_picture::read_picture;
+use seq_record::SeqTiling;
+use seq_record::SequenceHeader;
+use seq_record::Start;
+use seq_record::no_seq_hdr;
+use seq_residual::read_filters;
+use seq_residual::read_residual;
+use tile_info::parse_tile_info;
+use tile_layout::TileRead;
+use tile_layout::no_tile_info;
+
+// The answer, the record, and the place after it.
+pub struct SeqRead {
+    pub answer: Answer,
+    pub hdr: SequenceHeader,
+    pub next: Place,
+}
+
+struct StartRead {
+    fields: Start,
+    next: Place,
+}
+
+struct TilingRead {
+    answer: Answer,
+    fields: SeqTiling,
+    next: Place,
+}
+
+fn read_start(s: &[u8], p: Place) -> StartRead
+    ensures { λ r. ⌜ r ≡ readStart (now (s .entry)) p ⌝ }
+{
+    let id = get_vlc(s, p);
+    let profile = get_small(s, id.next, 5);
+    let next = profile.next;
+    StartRead {
+        fields: Start {
+            id: (id.value % 256) as u8,
+            profile: profile.value,
+        },
+        next,
+    }
+}
+
+fn unknown_profile(n: u8) -> bool
+    ensures { λ r. ⌜ r ≡ unknownProfile n ⌝ }
+{
+    !((n <= 8) | (n == 31))
+}
+
+fn above(n: u32, most: u32) -> bool
+    ensures { λ r. ⌜ r ≡ ltb most n ⌝ }
+{
+    most < n
+}
+
+fn is_mono(layout: PixelLayout) -> bool
+    ensures { λ r. ⌜ r ≡ isMono layout ⌝ }
+{
+    match layout {
+        PixelLayout::I400 => true,
+        PixelLayout::I420 => false,
+        PixelLayout::I422 => false,
+        PixelLayout::I444 => false,
+    }
+}
+
+// The layout of the largest frame.
+fn tile_info_if(
+    s: &[u8],
+    p: Place,
+    sb128: u8,
+    size: FrameSize,
+    level: Level,
+    cond: bool,
+) -> TileRead
+    ensures { λ r. ⌜ r ≡ tileInfoIf cond sb128 size level (now (s .entry)) p ⌝ }
+{
+    let t = no_tile_info();
+    if cond {
+        return parse_tile_info(
+            s,
+            p,
+            t,
+            1,
+            sb128,
+            sb128,
+            size.max_width,
+            size.max_height,
+            level.level,
+            level.tier,
+        );
+    }
+    TileRead {
+        answer: Answer::Accepted,
+        info: t,
+        next: p,
+    }
+}
+
+fn read_tiling(s: &[u8], p: Place, sb128: u8, size: FrameSize, level: Level) -> TilingRead
+    ensures { λ r. ⌜ r ≡ readTiling sb128 size level (now (s .entry)) p ⌝ }
+{
+    let present = get_flag(s, p);
+    let adaptive = flag_if(s, present.next, present.value);
+    let t = tile_info_if(s, adaptive.next, sb128, size, level, present.value);
+    let present = adaptive_or(adaptive.value, present.value);
+    let answer = t.answer;
+    let next = t.next;
+    let t = t.info;
+    TilingRead {
+        answer,
+        fields: SeqTiling { present, t },
+        next,
+    }
+}
+
+fn refuse(answer: Answer, p: Place) -> SeqRead
+    ensures { λ r. ⌜ r ≡ refused answer p ⌝ }
+{
+    let hdr = no_seq_hdr();
+    SeqRead {
+        answer,
+        hdr,
+        next: p,
+    }
+}
+
+// Strict only: after the extension bit there is a further bit, and it is 1.
+fn check_trailing_bits(s: &[u8], p: Place, hdr: SequenceHeader, strict: bool) -> SeqRead
+    ensures { λ r. ⌜ r ≡ checkTrailingBits strict hdr (now (s .entry)) p ⌝ }
+{
+    if !strict {
+        return SeqRead {
+            answer: Answer::Accepted,
+            hdr,
+            next: p,
+        };
+    }
+    let extension = get_flag(s, p);
+    let one = get_flag(s, extension.next);
+    let next = one.next;
+    if next.error | !one.value {
+        return refuse(Answer::InvalidTrailingBits, next);
+    }
+    SeqRead {
+        answer: Answer::Accepted,
+        hdr,
+        next,
+    }
+}
+
+pub fn parse_seq_hdr(s: &[u8], p: Place, strict: bool) -> SeqRead
+    ensures { λ r. ⌜ r ≡ parseSeqHdr (now (s .entry)) p strict ⌝ }
+{
+    let start = read_start(s, p);
+    if unknown_profile(start.fields.profile) {
+        return refuse(Answer::InvalidSequenceHeader, start.next);
+    }
+    let level = read_level(s, start.next);
+    if above(level.layout_idx, 3) {
+        return refuse(Answer::InvalidSequenceHeader, level.next);
+    }
+    let format = read_format(s, level.next, level.layout_idx);
+    if above(format.depth_idx, 2) {
+        return refuse(Answer::InvalidSequenceHeader, format.next);
+    }
+    let fields = format.fields;
+    let layout = fields.layout;
+    let mono = is_mono(layout);
+    let reduced = level.fields.reduced_still_picture_header;
+    let picture = read_picture(s, format.next, reduced);
+    let blocks = read_blocks(s, picture.next, mono, reduced);
+    let motion = read_motion(s, blocks.next, reduced);
+    let refs = read_ref_frames(s, motion.next, reduced);
+    if above(refs.fields.ref_frames as u32, 8) {
+        return refuse(Answer::InvalidSequenceHeader, refs.next);
+    }
+    let inter = read_inter(s, refs.next, reduced);
+    let residual = read_residual(s, inter.next, mono, reduced);
+    let sb128 = blocks.fields.partition.sb128;
+    let filters = read_filters(s, residual.next, reduced, sb128);
+    let tiling = read_tiling(s, filters.next, sb128, picture.fields.size, level.fields);
+    let answer = tiling.answer;
+    if is_refusal(answer) {
+        return refuse(Answer::InvalidTileInfo, tiling.next);
+    }
+    let grain = get_flag(s, tiling.next);
+    let next = grain.next;
+    if next.error {
+        return refuse(Answer::InvalidSequenceHeader, next);
+    }
+    let start = start.fields;
+    let level = level.fields;
+    let format = format.fields;
+    let picture = picture.fields;
+    let blocks = blocks.fields;
+    let motion = motion.fields;
+    let refs = refs.fields;
+    let inter = inter.fields;
+    let residual = residual.fields;
+    let filters = filters.fields;
+    let tiling = tiling.fields;
+    let hdr = SequenceHeader {
+        start,
+        level,
+        format,
+        picture,
+        blocks,
+        motion,
+        refs,
+        inter,
+        residual,
+        filters,
+        tiling,
+        film_grain_present: grain.value,
+    };
+    check_trailing_bits(s, next, hdr, strict)
+}
