@@ -22,6 +22,9 @@ use Rattle.seq_residual.specs.Residual.{readResidual}
 use Rattle.seq_residual.specs.Filters.{readFilters}
 use Rattle.seq_record.specs.Zero.{noSeqHdr}
 use Rattle.seq_record.specs.declared.SequenceHeader.{SequenceHeader}
+use Rattle.seq_record.specs.declared.SeqTiling.{SeqTiling}
+use Rattle.seq_fields.specs.declared.AdaptiveBoolean.the-variants.{Off}
+use Rattle.tile_layout.specs.Limits.{noTileInfo}
 use Rattle.seq_hdr.specs.Tiling.{readTiling}
 use Rattle.seq_hdr.specs.declared.StartRead.{StartRead}
 use Rattle.seq_hdr.specs.declared.SeqRead.{SeqRead}
@@ -57,9 +60,9 @@ checkTrailingBits strict hdr s p =
     pick (one .next .error || not (one .value)) (refused InvalidTrailingBits (one .next))
     (record { answer = Accepted; hdr = hdr; next = one .next }))
 
--- parse_seq_hdr
-unfoldable pub parseSeqHdr : List ℕ → Place → Bool → SeqRead
-parseSeqHdr s p strict =
+-- everything before the tiling; the record is still without it
+unfoldable pub readHead : List ℕ → Place → SeqRead
+readHead s p =
     then (readStart s p) λ start.
     pick (unknownProfile (start .fields .profile)) (refused InvalidSequenceHeader (start .next)) (
     then (readLevel s (start .next)) λ level.
@@ -77,22 +80,51 @@ parseSeqHdr s p strict =
     then (readResidual mono reduced s (inter .next)) λ residual.
     then (blocks .fields .partition .sb128) λ sb128.
     then (readFilters reduced sb128 s (residual .next)) λ filters.
-    then (readTiling sb128 (picture .fields .size) (level .fields) s (filters .next)) λ tiling.
+    record {
+      answer = Accepted;
+      hdr = record {
+        start = start .fields;
+        level = level .fields;
+        format = format .fields;
+        picture = picture .fields;
+        blocks = blocks .fields;
+        motion = motion .fields;
+        refs = refs .fields;
+        inter = inter .fields;
+        residual = residual .fields;
+        filters = filters .fields;
+        tiling = record { present = Off; t = noTileInfo };
+        «film_grain_present» = false;
+      };
+      next = filters .next;
+    }))))
+
+-- the record with its last two fields
+abbrev pub withTiling : SequenceHeader → SeqTiling → Bool → SequenceHeader
+withTiling hdr tiling grain =
+    record {
+      start = hdr .start;
+      level = hdr .level;
+      format = hdr .format;
+      picture = hdr .picture;
+      blocks = hdr .blocks;
+      motion = hdr .motion;
+      refs = hdr .refs;
+      inter = hdr .inter;
+      residual = hdr .residual;
+      filters = hdr .filters;
+      tiling = tiling;
+      «film_grain_present» = grain;
+    }
+
+-- parse_seq_hdr
+unfoldable pub parseSeqHdr : List ℕ → Place → Bool → SeqRead
+parseSeqHdr s p strict =
+    then (readHead s p) λ head.
+    pick (isRefusal (head .answer)) head (
+    then (readTiling (head .hdr .blocks .partition .sb128) (head .hdr .picture .size) (head .hdr .level) s (head .next)) λ tiling.
     pick (isRefusal (tiling .answer)) (refused InvalidTileInfo (tiling .next)) (
     then (getFlag s (tiling .next)) λ grain.
     pick (grain .next .error) (refused InvalidSequenceHeader (grain .next)) (
-    then (record {
-      start = start .fields;
-      level = level .fields;
-      format = format .fields;
-      picture = picture .fields;
-      blocks = blocks .fields;
-      motion = motion .fields;
-      refs = refs .fields;
-      inter = inter .fields;
-      residual = residual .fields;
-      filters = filters .fields;
-      tiling = tiling .fields;
-      «film_grain_present» = grain .value;
-    }) λ hdr.
-    checkTrailingBits strict hdr s (grain .next)))))))
+    then (withTiling (head .hdr) (tiling .fields) (grain .value)) λ hdr.
+    checkTrailingBits strict hdr s (grain .next))))

@@ -2,7 +2,7 @@
 ghost use mathlib.Core.Path.{_≡_};
 ghost use lib.Dec.{ltb};
 ghost use Rattle.seq_hdr.specs.Tiling.{tileInfoIf, readTiling};
-ghost use Rattle.seq_hdr.specs.Header.{readStart, unknownProfile, isMono, refused, checkTrailingBits, parseSeqHdr};
+ghost use Rattle.seq_hdr.specs.Header.{readStart, unknownProfile, isMono, refused, checkTrailingBits, readHead, withTiling, parseSeqHdr};
 use answers::Answer;
 use answers::is_refusal;
 use codes::get_vlc;
@@ -10,6 +10,7 @@ use getbits::Place;
 use getbits::flag_if;
 use getbits::get_flag;
 use seq_blocks::read_blocks;
+use seq_fields::AdaptiveBoolean;
 use seq_fields::PixelLayout;
 use seq_fields::adaptive_or;
 use seq_fields::get_small;
@@ -172,8 +173,9 @@ fn check_trailing_bits(s: &[u8], p: Place, hdr: SequenceHeader, strict: bool) ->
     }
 }
 
-pub fn parse_seq_hdr(s: &[u8], p: Place, strict: bool) -> SeqRead
-    ensures { λ r. ⌜ r ≡ parseSeqHdr (now (s .entry)) p strict ⌝ }
+// Everything before the tiling; the record is still without it.
+fn read_head(s: &[u8], p: Place) -> SeqRead
+    ensures { λ r. ⌜ r ≡ readHead (now (s .entry)) p ⌝ }
 {
     let start = read_start(s, p);
     if unknown_profile(start.fields.profile) {
@@ -202,16 +204,6 @@ pub fn parse_seq_hdr(s: &[u8], p: Place, strict: bool) -> SeqRead
     let residual = read_residual(s, inter.next, mono, reduced);
     let sb128 = blocks.fields.partition.sb128;
     let filters = read_filters(s, residual.next, reduced, sb128);
-    let tiling = read_tiling(s, filters.next, sb128, picture.fields.size, level.fields);
-    let answer = tiling.answer;
-    if is_refusal(answer) {
-        return refuse(Answer::InvalidTileInfo, tiling.next);
-    }
-    let grain = get_flag(s, tiling.next);
-    let next = grain.next;
-    if next.error {
-        return refuse(Answer::InvalidSequenceHeader, next);
-    }
     let start = start.fields;
     let level = level.fields;
     let format = format.fields;
@@ -221,8 +213,9 @@ pub fn parse_seq_hdr(s: &[u8], p: Place, strict: bool) -> SeqRead
     let refs = refs.fields;
     let inter = inter.fields;
     let residual = residual.fields;
+    let next = filters.next;
     let filters = filters.fields;
-    let tiling = tiling.fields;
+    let t = no_tile_info();
     let hdr = SequenceHeader {
         start,
         level,
@@ -234,8 +227,70 @@ pub fn parse_seq_hdr(s: &[u8], p: Place, strict: bool) -> SeqRead
         inter,
         residual,
         filters,
-        tiling,
-        film_grain_present: grain.value,
+        tiling: SeqTiling {
+            present: AdaptiveBoolean::Off,
+            t,
+        },
+        film_grain_present: false,
     };
+    SeqRead {
+        answer: Answer::Accepted,
+        hdr,
+        next,
+    }
+}
+
+// The record with its last two fields.
+fn with_tiling(hdr: SequenceHeader, tiling: SeqTiling, film_grain_present: bool) -> SequenceHeader
+    ensures { λ r. ⌜ r ≡ withTiling hdr tiling «film_grain_present» ⌝ }
+{
+    let start = hdr.start;
+    let level = hdr.level;
+    let format = hdr.format;
+    let picture = hdr.picture;
+    let blocks = hdr.blocks;
+    let motion = hdr.motion;
+    let refs = hdr.refs;
+    let inter = hdr.inter;
+    let residual = hdr.residual;
+    let filters = hdr.filters;
+    SequenceHeader {
+        start,
+        level,
+        format,
+        picture,
+        blocks,
+        motion,
+        refs,
+        inter,
+        residual,
+        filters,
+        tiling,
+        film_grain_present,
+    }
+}
+
+pub fn parse_seq_hdr(s: &[u8], p: Place, strict: bool) -> SeqRead
+    ensures { λ r. ⌜ r ≡ parseSeqHdr (now (s .entry)) p strict ⌝ }
+{
+    let head = read_head(s, p);
+    let answer = head.answer;
+    if is_refusal(answer) {
+        return head;
+    }
+    let hdr = head.hdr;
+    let sb128 = hdr.blocks.partition.sb128;
+    let tiling = read_tiling(s, head.next, sb128, hdr.picture.size, hdr.level);
+    let answer = tiling.answer;
+    if is_refusal(answer) {
+        return refuse(Answer::InvalidTileInfo, tiling.next);
+    }
+    let grain = get_flag(s, tiling.next);
+    let next = grain.next;
+    if next.error {
+        return refuse(Answer::InvalidSequenceHeader, next);
+    }
+    let tiling = tiling.fields;
+    let hdr = with_tiling(hdr, tiling, grain.value);
     check_trailing_bits(s, next, hdr, strict)
 }
