@@ -42,7 +42,7 @@ sound-bits n =
           let c = read-clean s p n e in
           let end : position s (readBits s p n .next) ≡ position s p + n = read-pos s p n ∙ omega (arith, c .1) in
           let same : bitsAt t (position t p) n ≡ bitsAt s (position s p) n =
-                  ap (λ (i : ℕ). bitsAt t i n) at ∙ bits-local t s (position s p) n (λ k h. a .same (position s p + k) (omega arith) (omega (arith, end))) in
+          ap (λ (i : ℕ). bitsAt t i n) at ∙ bits-local t s (position s p) n (λ k h. a .same (position s p + k) (omega arith) (omega (arith, end))) in
           read-there t p n (omega (arith, a .there, end, at)) ∙ rw (same, at) (sym (read-there s p n (c .1)));
       steady = λ s t p e at a.
           let c = read-clean s p n e in

@@ -9,16 +9,21 @@ use Rattle.getbits.specs.Chain.{pick, then}
 use Rattle.getbits.specs.declared.Place.{Place}
 use Rattle.tile_layout.specs.Limits.{noTileInfo, argsOf}
 use Rattle.tile_layout.specs.Layout.{parseTileInfo}
+use Rattle.tile_layout.specs.declared.TileArgs.{TileArgs}
 use Rattle.tile_layout.specs.declared.TileRead.{TileRead}
 use Rattle.seq_fields.specs.declared.AdaptiveBoolean.the-variants.{Off, On, Adaptive}
 use Rattle.seq_picture.specs.declared.FrameSize.{FrameSize}
 use Rattle.seq_picture.specs.declared.Level.{Level}
 use Rattle.seq_hdr.specs.declared.TilingRead.{TilingRead}
 
--- the layout of the largest frame, from the zero layout, with one superblock size; without tiling the zero layout
+-- what the layout is read for: one superblock size, the largest frame, the header's level and tier
+abbrev pub tilingArgs : ℕ → FrameSize → Level → TileArgs
+tilingArgs sb128 size level = argsOf (pos 1) sb128 sb128 (size .«max_width») (size .«max_height») (level .level) (level .tier)
+
+-- the layout of the largest frame, from the zero layout; without tiling the zero layout
 unfoldable pub tileInfoIf : Bool → ℕ → FrameSize → Level → List ℕ → Place → TileRead
 tileInfoIf true sb128 size level s p =
-    parseTileInfo s p noTileInfo (argsOf (pos 1) sb128 sb128 (size .«max_width») (size .«max_height») (level .level) (level .tier))
+    parseTileInfo s p noTileInfo (tilingArgs sb128 size level)
 tileInfoIf false sb128 size level s p = record { answer = Accepted; info = noTileInfo; next = p }
 
 -- tiling: Off, or On or Adaptive with a layout

@@ -2,6 +2,7 @@
 ghost use mathlib.Core.Path.{_≡_};
 ghost use lib.Dec.{ltb};
 ghost use Rattle.seq_hdr.specs.Tiling.{tileInfoIf, readTiling};
+ghost use Rattle.seq_hdr.specs.HeaderLayout.{HeaderLayout};
 ghost use Rattle.seq_hdr.specs.Header.{readStart, unknownProfile, isMono, refused, checkTrailingBits, readHead, withTiling, parseSeqHdr};
 use answers::Answer;
 use answers::is_refusal;
@@ -272,6 +273,7 @@ fn with_tiling(hdr: SequenceHeader, tiling: SeqTiling, film_grain_present: bool)
 
 pub fn parse_seq_hdr(s: &[u8], p: Place, strict: bool) -> SeqRead
     ensures { λ r. ⌜ r ≡ parseSeqHdr (now (s .entry)) p strict ⌝ }
+    ensures { λ r. ⌜ HeaderLayout (now (s .entry)) p r ⌝ }
 {
     let head = read_head(s, p);
     let answer = head.answer;

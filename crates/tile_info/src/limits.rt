@@ -2,12 +2,13 @@
 ghost use mathlib.Core.Path.{_≡_};
 ghost use mathlib.Core.Bool.{true};
 ghost use Prim.Native.Nat.{_*_, _≤_, max};
-ghost use Rattle.tile_layout.specs.Limits.{size, superblocks, inDomain, widthLimit, areaLimit, tileLog2};
+ghost use Rattle.tile_layout.specs.Limits.{size, inDomain, widthLimit, areaLimit, tileLog2};
 ghost use Rattle.tile_info.specs.Inner.{Known};
 use super::intops::one_if;
 use super::intops::power;
 use super::intops::umin;
 use super::sb::FrameSb;
+use super::sb::frame_count;
 use super::sb::frame_sb;
 use tile_layout::TileArgs;
 
@@ -43,15 +44,6 @@ pub fn sb_size(code: u8) -> u32
     64 * power(code)
 }
 
-// n samples in superblocks, rounded up.
-pub fn sb_count(n: u32, code: u8) -> u32
-    requires { ⌜ (code ≤ 2) × (n ≤ 65536) ⌝ }
-    ensures { λ r. ⌜ r ≡ superblocks n code ⌝ }
-{
-    let sbsz = sb_size(code);
-    (n + (sbsz - 1)) / sbsz
-}
-
 fn larger_log2(a: u8, b: u8) -> u8
     ensures { λ r. ⌜ r ≡ max a b ⌝ }
 {
@@ -81,8 +73,10 @@ pub fn frame_limits(a: TileArgs) -> FrameLimits
     requires { ⌜ inDomain a ≡ true ⌝ }
     ensures { λ r. ⌜ Known a r ⌝ }
 {
-    let sbw = sb_count(a.width, a.frame_code);
-    let sbh = sb_count(a.height, a.frame_code);
+    let across = frame_count(a.width, a.frame_code);
+    let down = frame_count(a.height, a.frame_code);
+    let sbw = across.number();
+    let sbh = down.number();
     let max_width = max_tile_width_sb(a);
     let min_log2_cols = tile_log2(max_width, sbw);
     let max_log2_cols = tile_log2(1, umin(sbw, 64));
@@ -90,8 +84,8 @@ pub fn frame_limits(a: TileArgs) -> FrameLimits
     let area_log2 = tile_log2(max_tile_area_sb(a), sbw * sbh);
     let min_log2_tiles = larger_log2(area_log2, min_log2_cols);
     FrameLimits {
-        sbw: frame_sb(sbw),
-        sbh: frame_sb(sbh),
+        sbw: across,
+        sbh: down,
         max_tile_width_sb: frame_sb(max_width),
         min_log2_cols,
         max_log2_cols,

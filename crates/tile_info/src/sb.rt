@@ -2,10 +2,12 @@
 ghost use mathlib.Core.Path.{_≡_};
 ghost use Prim.Native.Nat.{_+_, _-_, _*_, _≤_, min, max};
 ghost use lib.Dec.{ltb};
+ghost use Rattle.tile_layout.specs.Limits.{superblocks};
 ghost use Rattle.tile_layout.specs.Layout.{base, count, larger};
 use super::intops::power;
 use super::intops::umax;
 use super::intops::umin;
+use super::limits::sb_size;
 
 // A count of the sequence's superblocks.
 pub struct SeqSb(u32);
@@ -30,6 +32,29 @@ pub fn frame_sb(n: u32) -> FrameSb
     ensures { λ r. ⌜ r .0 ≡ n ⌝ }
 {
     FrameSb(n)
+}
+
+// n samples in superblocks of a size, rounded up.
+fn sb_count(n: u32, code: u8) -> u32
+    requires { ⌜ (code ≤ 2) × (n ≤ 65536) ⌝ }
+    ensures { λ r. ⌜ r ≡ superblocks n code ⌝ }
+{
+    let sbsz = sb_size(code);
+    (n + (sbsz - 1)) / sbsz
+}
+
+pub fn seq_count(n: u32, seq_code: u8) -> SeqSb
+    requires { ⌜ («seq_code» ≤ 2) × (n ≤ 65536) ⌝ }
+    ensures { λ r. ⌜ r .0 ≡ superblocks n «seq_code» ⌝ }
+{
+    SeqSb(sb_count(n, seq_code))
+}
+
+pub fn frame_count(n: u32, frame_code: u8) -> FrameSb
+    requires { ⌜ («frame_code» ≤ 2) × (n ≤ 65536) ⌝ }
+    ensures { λ r. ⌜ r .0 ≡ superblocks n «frame_code» ⌝ }
+{
+    FrameSb(sb_count(n, frame_code))
 }
 
 impl SeqSb {

@@ -4,14 +4,14 @@ ghost use mathlib.Core.Bool.{true};
 ghost use mathlib.Core.List.{[], _∷_, _++_};
 ghost use Prim.Native.Nat.{_+_, _*_, _≤_, min};
 ghost use Rattle.tile_layout.specs.Limits.{superblocks, inDomain};
-ghost use Rattle.tile_layout.specs.Layout.{tabulate, over, readLog2, fullCount, totalCount, uniformCount, uniformEdges};
+ghost use Rattle.tile_layout.specs.Layout.{tabulate, over, readLog2, fullCount, uniformCount, uniformEdges};
 use super::intops::umax;
-use super::limits::sb_count;
 use super::limits::sb_size;
 use super::sb::FrameSb;
 use super::sb::SeqSb;
 use super::sb::Split;
 use super::sb::even_split;
+use super::sb::seq_count;
 use super::sb::seq_sb;
 use getbits::Place;
 use getbits::get_bit;
@@ -74,15 +74,6 @@ fn full_count(a: TileArgs, n: u32) -> SeqSb
     seq_sb(umax(1, (n + 7) / sb_size(a.seq_code)))
 }
 
-// All of them.
-fn total_count(a: TileArgs, n: u32) -> SeqSb
-    requires { ⌜ inDomain a ≡ true ⌝ }
-    requires { ⌜ n ≤ 65536 ⌝ }
-    ensures { λ r. ⌜ r .0 ≡ totalCount a n ⌝ }
-{
-    seq_sb(sb_count(n, a.seq_code))
-}
-
 // The columns or rows along n samples, which are `end` superblocks of the frame.
 pub fn uniform_starts(starts: [u16; 65], a: TileArgs, n: u32, end: FrameSb, log2: u8) -> Starts
     requires { ⌜ inDomain a ≡ true ⌝ }
@@ -90,7 +81,7 @@ pub fn uniform_starts(starts: [u16; 65], a: TileArgs, n: u32, end: FrameSb, log2
     ensures { λ r. ⌜ (r .tiles ≡ uniformCount a n log2) × (r .starts ≡ over (uniformEdges a n log2) starts) ⌝ }
 {
     let fsb = full_count(a, n);
-    let ssb = total_count(a, n);
+    let ssb = seq_count(n, a.seq_code);
     let split = even_split(fsb, ssb, log2);
     let at = fill(starts, a.multiplier, split, end);
     let tiles = split.tiles as u8;

@@ -1,3 +1,4 @@
+-- `seq_hdr::read_head` meets its contract. Assumes nothing.
 use mathlib.Core.Path.{refl, sym, _∙_}
 use borrow.Author.Needs.{needs}
 use Rattle.getbits.proofs.Chain.{through, taken, left}

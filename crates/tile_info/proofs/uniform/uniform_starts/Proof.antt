@@ -6,7 +6,7 @@ use native.Mathlib.Omega.{arith}
 use borrow.Author.Needs.{needs}
 use lib.Pow.{pow-pos}
 use Rattle.tile_layout.proofs.Even.{few-tiles, base-le, holds}
-use Rattle.tile_layout.proofs.Domain.{Along, domain, along, low-multiplier}
+use Rattle.tile_layout.proofs.Domain.{Along, domain, along, low-seq-code, low-multiplier}
 use Rattle.tile_layout.specs.Layout.{fullCount, totalCount, base, count, larger, startAt}
 use Rattle.tile_layout.specs.Limits.{superblocks}
 use Rattle.tile_info.proofs.uniform.uniform_starts.Statement.{statement}
@@ -32,9 +32,12 @@ split : (c : tie.After-even-split) → let s = c .before .before .before in let 
 split c =
     let l = c .before .before .before .args .log2 in
     let f = c .before .before .full-count .ensures in
-    let t = c .before .total-count .ensures in
+    let t = c .before .seq-count .ensures in
     let e = c .even-split .ensures in
     (e .0 ∙ ap (λ (x : ℕ). base x l) f, e .1 ∙ ap₂ (λ (x y : ℕ). count x y l) f t, e .2 ∙ ap₂ (λ (x y : ℕ). larger x y l) f t)
+
+seq-count-requires : tie.Need-seq-count-requires
+seq-count-requires c κs = (low-seq-code _ (domain _ (c .before .pre .0)), c .before .pre .1 .1)
 
 fill-requires : tie.Need-fill-requires
 fill-requires c κs =
@@ -63,7 +66,7 @@ uniform-starts-spec =
     tie.close
     (tie.spec
     (λ c κs. search needs)
-    (λ c κs. search needs)
+    seq-count-requires
     (λ c κs. search needs)
     fill-requires
     cast-tiles

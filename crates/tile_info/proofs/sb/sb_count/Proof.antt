@@ -1,8 +1,8 @@
--- `tile_info::limits::sb_count` meets its contract. Assumes nothing.
+-- `tile_info::sb::sb_count` meets its contract. Assumes nothing.
 use borrow.Author.Needs.{needs}
 use Rattle.tile_layout.specs.Limits.{superblocks}
-use Rattle.tile_info.proofs.limits.sb_count.Statement.{statement}
-use Rattle.tile_info.proofs.limits.sb_count.Tie as tie
+use Rattle.tile_info.proofs.sb.sb_count.Statement.{statement}
+use Rattle.tile_info.proofs.sb.sb_count.Tie as tie
 
 returns : tie.Need-returns
 unfolding superblocks
