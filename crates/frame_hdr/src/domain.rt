@@ -1,0 +1,92 @@
+// The domain: the frame's size, and a usable sequence record.
+ghost use mathlib.Core.Path.{_≡_};
+ghost use mathlib.Core.Bool.{_&&_};
+ghost use Prim.Native.Nat.{_<_};
+ghost use lib.ListN.{getD};
+ghost use Rattle.tile_layout.specs.Limits.{unsigned, isSize};
+ghost use Rattle.frame_hdr.specs.Frame.{startsLow, usableTiles, isOff, usable, inFrameDomain};
+use super::FrameHeader;
+use super::SeqLayout;
+use seq_fields::AdaptiveBoolean;
+use tile_layout::TileInfo;
+
+// A number below 0 counts as 0.
+pub fn not_below_0(x: i32) -> u32
+    ensures { λ r. ⌜ r ≡ unsigned x ⌝ }
+{
+    if x < 0 {
+        return 0;
+    }
+    x as u32
+}
+
+fn is_size(x: i32) -> bool
+    ensures { λ r. ⌜ r ≡ isSize (unsigned x) ⌝ }
+{
+    let n = not_below_0(x);
+    (1 <= n) & (n <= 65536)
+}
+
+// The start at i, and 0 past the end.
+fn at(starts: &[u16], i: usize) -> u16
+    ensures { λ r. ⌜ r ≡ getD (now (starts .entry)) i 0 ⌝ }
+{
+    if i < starts.len() { starts[i] } else { 0 }
+}
+
+// All starts up to and with entry n are at most 1,024.
+fn starts_low(starts: &[u16], n: u8) -> bool
+    ensures { λ r. ⌜ r ≡ startsLow (now (starts .entry)) n ⌝ }
+{
+    let mut low = at(starts, 0) <= 1024;
+    let mut i: u8 = 0;
+    while i < n {
+        i += 1;
+        low = low & (at(starts, i as usize) <= 1024);
+    }
+    low
+}
+
+fn usable_tiles(tiles: u8, log2: u8, starts: &[u16]) -> bool
+    ensures { λ r. ⌜ r ≡ usableTiles tiles log2 (now (starts .entry)) ⌝ }
+{
+    (1 <= tiles) & (tiles <= 64) & (log2 <= 6) & starts_low(starts, tiles)
+}
+
+fn usable_info(t: TileInfo) -> bool
+    ensures { λ r. ⌜ r ≡ usableTiles (t .cols) (t .«log2_cols») (t .«col_start_sb») && usableTiles (t .rows) (t .«log2_rows») (t .«row_start_sb») ⌝ }
+{
+    let col_start_sb = t.col_start_sb;
+    let row_start_sb = t.row_start_sb;
+    let across = usable_tiles(t.cols, t.log2_cols, &col_start_sb);
+    let down = usable_tiles(t.rows, t.log2_rows, &row_start_sb);
+    across & down
+}
+
+pub fn is_off(present: AdaptiveBoolean) -> bool
+    ensures { λ r. ⌜ r ≡ isOff present ⌝ }
+{
+    match present {
+        AdaptiveBoolean::Off => true,
+        AdaptiveBoolean::On => false,
+        AdaptiveBoolean::Adaptive => false,
+    }
+}
+
+fn is_usable(seq: SeqLayout) -> bool
+    ensures { λ r. ⌜ r ≡ usable seq ⌝ }
+{
+    let present = seq.present;
+    (seq.sb128 <= 2)
+        & is_size(seq.max_width)
+        & is_size(seq.max_height)
+        & (seq.level <= 31)
+        & (seq.tier <= 1)
+        & (is_off(present) | usable_info(seq.t))
+}
+
+pub fn in_frame_domain(hdr: FrameHeader, seq: SeqLayout) -> bool
+    ensures { λ r. ⌜ r ≡ inFrameDomain hdr seq ⌝ }
+{
+    is_size(hdr.width) & is_size(hdr.height) & is_usable(seq)
+}
