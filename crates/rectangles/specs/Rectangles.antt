@@ -1,14 +1,15 @@
 -- The rectangles of a layout's tiles: document 01, "Tile rectangles".
 use mathlib.Core.Path.{_≡_}
 use mathlib.Core.Bool.{Bool, true, false, _&&_}
-use mathlib.Core.List.{List, [], _∷_, _++_}
-use Prim.Native.Nat.{ℕ, zero, suc, _+_, _-_, _*_, _^_, _≤_, _<_}
+use mathlib.Core.List.{List, [], _∷_}
+use Prim.Native.Nat.{ℕ, zero, suc, _+_, _-_, _*_, _≤_, _<_}
 use lib.Dec.{leb}
 use lib.ListN.{length, getD}
 use Rattle.answers.specs.declared.Answer.{Answer}
 use Rattle.answers.specs.declared.Answer.the-variants.{Accepted, WrongArguments, ShortBuffer}
 use Rattle.answers.specs.Numbers.{isRefusal}
 use Rattle.getbits.specs.Chain.{pick}
+use Rattle.tile_layout.specs.Limits.{size}
 use Rattle.tile_layout.specs.declared.TileInfo.{TileInfo}
 
 -- the first n starts and the closing one never fall, and are at most 1,024
@@ -35,16 +36,12 @@ numbers t = 4 * (t .cols * t .rows)
 unfoldable pub rectanglesAnswer : TileInfo → ℕ → ℕ → Answer
 rectanglesAnswer t code room = pick (hasRectangles t code) (pick (leb (numbers t) room) Accepted ShortBuffer) WrongArguments
 
--- the side of a superblock in samples
-abbrev pub side : ℕ → ℕ
-side code = 64 * 2 ^ code
-
 -- where tile i along one direction begins and how far it reaches, in samples: from its start to the next start
 abbrev pub begins : List ℕ → ℕ → ℕ → ℕ
-begins starts code i = getD starts i 0 * side code
+begins starts code i = getD starts i 0 * size code
 
 abbrev pub reaches : List ℕ → ℕ → ℕ → ℕ
-reaches starts code i = (getD starts (i + 1) 0 - getD starts i 0) * side code
+reaches starts code i = (getD starts (i + 1) 0 - getD starts i 0) * size code
 
 -- left, top, width and height of the tile in a column and a row
 abbrev pub rectangle : TileInfo → ℕ → ℕ → ℕ → List ℕ

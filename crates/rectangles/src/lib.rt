@@ -5,7 +5,8 @@ ghost use mathlib.Core.List.{[], _∷_};
 ghost use Prim.Native.Nat.{_+_, _*_, _-_, _/_, _%_, _^_, _<_, _≤_};
 ghost use lib.ListN.{length, getD};
 ghost use lib.Seq.{sets};
-ghost use Rattle.rectangles.specs.Rectangles.{rising, hasRectangles, numbers, rectanglesAnswer, side, begins, reaches, rectangle, Outcome};
+ghost use Rattle.tile_layout.specs.Limits.{size};
+ghost use Rattle.rectangles.specs.Rectangles.{rising, hasRectangles, numbers, rectanglesAnswer, begins, reaches, rectangle, Outcome};
 ghost use Rattle.rectangles.specs.Rows.{rowByRow, inFront};
 use answers::Answer;
 use tile_layout::TileInfo;
@@ -60,7 +61,7 @@ fn has_rectangles(t: TileInfo, sb128: u8) -> bool
 
 fn side_of(sb128: u8) -> u32
     requires { ⌜ «sb128» ≤ 2 ⌝ }
-    ensures { λ r. ⌜ (r ≡ side «sb128») × (r ≤ 256) ⌝ }
+    ensures { λ r. ⌜ (r ≡ size «sb128») × (r ≤ 256) ⌝ }
 {
     match sb128 {
         0 => 64,
