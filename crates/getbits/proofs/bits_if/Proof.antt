@@ -1,4 +1,5 @@
 -- `getbits::bits_if` meets its contract. Assumes nothing.
+use mathlib.Core.Path.{refl}
 use borrow.Author.Needs.{needs}
 use mir.Facts.{toZ-ofZ}
 use Rattle.getbits.specs.Bits.{bitsIf}
@@ -13,7 +14,7 @@ returns c =
 
 returns-2 : tie.Need-returns-2
 unfolding bitsIf
-returns-2 c = cc
+returns-2 c = rw (c .if1 .left) refl
 
 pub bits-if-spec : {M : Type 1} → statement M
 bits-if-spec = tie.close (tie.spec (λ c κs. search needs) returns returns-2)

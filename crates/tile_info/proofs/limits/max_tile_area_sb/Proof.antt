@@ -1,4 +1,5 @@
 -- `tile_info::limits::max_tile_area_sb` meets its contract. Assumes nothing.
+use mathlib.Core.Path.{refl}
 use Prim.Native.Nat.{_+_, _≤_}
 use native.Mathlib.Nat.{mul-le-mul, mul-pos, lt-of-le-of-lt}
 use native.Mathlib.Omega.{arith}
@@ -27,7 +28,11 @@ div-result c = mul-pos (omega arith) (omega arith)
 
 returns : tie.Need-returns
 unfolding areaLimit
-returns c = cc
+returns c =
+    let k = c .before .before in
+    rw (c .power .ensures .0)
+    (rw (c .before .sb-size .ensures .0)
+    (rw (k .one-if3 .ensures .0) (rw (k .before .before .before .one-if2 .ensures .0) (rw (k .before .before .before .before .before .one-if .ensures .0) refl))))
 
 pub max-tile-area-sb-spec : {M : Type 1} → statement M
 max-tile-area-sb-spec =
