@@ -9,16 +9,7 @@ use super::FrameHeader;
 use super::SeqLayout;
 use seq_fields::AdaptiveBoolean;
 use tile_layout::TileInfo;
-
-// A number below 0 counts as 0.
-pub fn not_below_0(x: i32) -> u32
-    ensures { λ r. ⌜ r ≡ unsigned x ⌝ }
-{
-    if x < 0 {
-        return 0;
-    }
-    x as u32
-}
+use tile_layout::not_below_0;
 
 fn is_size(x: i32) -> bool
     ensures { λ r. ⌜ r ≡ isSize (unsigned x) ⌝ }

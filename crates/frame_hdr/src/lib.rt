@@ -13,13 +13,13 @@ use seq_record::SequenceHeader;
 use tile_info::parse_tile_info;
 use tile_layout::TileArgs;
 use tile_layout::TileInfo;
+use tile_layout::not_below_0;
 
 mod domain;
 mod reuse;
 mod sb;
 
 use domain::in_frame_domain;
-use domain::not_below_0;
 use reuse::read_reuse;
 use reuse::reuse_allowed;
 use reuse::reused_info;

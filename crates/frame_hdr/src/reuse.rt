@@ -10,7 +10,6 @@ ghost use Rattle.tile_layout.specs.Layout.{over, tabulate};
 ghost use Rattle.frame_hdr.specs.Frame.{startsLow, usableTiles, usable, seqSbw, seqSbh, reuseAllowed, notReused, askReuse, reusedStarts, reusedInfo};
 use super::SeqLayout;
 use super::domain::is_off;
-use super::domain::not_below_0;
 use super::sb::FrameSb;
 use super::sb::frame_sb;
 use super::sb::seq_sb;
@@ -22,6 +21,7 @@ use getbits::read_bits;
 use seq_fields::AdaptiveBoolean;
 use tile_layout::TileArgs;
 use tile_layout::TileInfo;
+use tile_layout::not_below_0;
 
 // A non-uniform layout: the frame's counts are those of the sequence's maximum size.
 fn same_counts(sbw: FrameSb, sbh: FrameSb, seq: SeqLayout) -> bool

@@ -1,17 +1,8 @@
 // The arguments, and their domain.
 ghost use mathlib.Core.Path.{_≡_};
-ghost use Rattle.tile_layout.specs.Limits.{unsigned, argsOf, isSize, isPair, inDomain};
+ghost use Rattle.tile_layout.specs.Limits.{argsOf, isSize, isPair, inDomain};
 use tile_layout::TileArgs;
-
-// A number below 0 counts as 0.
-fn not_below_0(x: i32) -> u32
-    ensures { λ r. ⌜ r ≡ unsigned x ⌝ }
-{
-    if x < 0 {
-        return 0;
-    }
-    x as u32
-}
+use tile_layout::not_below_0;
 
 pub fn tile_args(
     sbmul: i32,

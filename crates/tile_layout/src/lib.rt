@@ -1,6 +1,6 @@
 // The records of a tile layout.
 ghost use mathlib.Core.Path.{_≡_};
-ghost use Rattle.tile_layout.specs.Limits.{noTileInfo};
+ghost use Rattle.tile_layout.specs.Limits.{unsigned, noTileInfo};
 use answers::Answer;
 use getbits::Place;
 
@@ -35,6 +35,16 @@ pub struct TileRead {
     pub answer: Answer,
     pub info: TileInfo,
     pub next: Place,
+}
+
+// A number below 0 counts as 0.
+pub fn not_below_0(x: i32) -> u32
+    ensures { λ r. ⌜ r ≡ unsigned x ⌝ }
+{
+    if x < 0 {
+        return 0;
+    }
+    x as u32
 }
 
 pub fn no_tile_info() -> TileInfo

@@ -1,4 +1,4 @@
--- `frame_hdr::domain::not_below_0` meets its contract. Assumes nothing.
+-- `tile_layout::not_below_0` meets its contract. Assumes nothing.
 use mathlib.Core.Bool.{true}
 use mathlib.Core.Path.{_≡_, refl, ap}
 use native.Mathlib.Nat.{not-suc-le-zero}
@@ -6,10 +6,10 @@ use borrow.Author.Tests.{ltb-true}
 use lib.Signed.{ltZ}
 use lib.IntN.{ℤ, pos, negsuc}
 use mir.Facts.{toZ-ofZ}
 use Rattle.tile_layout.specs.Limits.{unsigned}
 use Rattle.getbits.proofs.Widths.{not-negative, natAbs-fits}
-use Rattle.frame_hdr.proofs.domain.not_below_0.Statement.{statement}
-use Rattle.frame_hdr.proofs.domain.not_below_0.Tie as tie
+use Rattle.tile_layout.proofs.not_below_0.Statement.{statement}
+use Rattle.tile_layout.proofs.not_below_0.Tie as tie
 
 negative : (z : ℤ) → ltZ z (pos 0) ≡ true → 0 ≡ unsigned z
 negative (pos n) h = absurd (not-suc-le-zero (ltb-true n 0 h))
