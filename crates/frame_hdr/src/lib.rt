@@ -152,7 +152,8 @@ fn fresh_layout(s: &[u8], p: Place, hdr: FrameHeader, a: TileArgs) -> FrameRead
     }
 }
 
-fn frame_layout(s: &[u8], p: Place, hdr: FrameHeader, seq: SeqLayout) -> FrameRead
+// parse_tile_info_frmhdr over the few fields of the sequence header that it needs.
+pub fn frame_layout(s: &[u8], p: Place, hdr: FrameHeader, seq: SeqLayout) -> FrameRead
     ensures { λ r. ⌜ r ≡ parseTileInfoFrmhdr (now (s .entry)) p hdr seq ⌝ }
     ensures { λ r. ⌜ FreshDemand3 (now (s .entry)) p hdr seq r ⌝ }
 {

@@ -1,0 +1,63 @@
+// The loops: a row of numbers goes into a buffer or comes out of one.
+ghost use mathlib.Core.Path.{_≡_};
+ghost use mathlib.Core.List.{[], _∷_, map};
+ghost use Prim.Native.Nat.{_+_, _≤_};
+ghost use lib.IntN.{pos};
+ghost use lib.ListN.{length, take, drop};
+ghost use Rattle.flat.specs.Rows.{Written};
+
+pub fn put_numbers(out: &mut [i64], at: usize, xs: &[u32]) -> usize
+    requires { ⌜ at + length (now xs) ≤ length (now out) ⌝ }
+    ensures { λ r. ⌜ Written (now (out .entry)) at (map pos (now (xs .entry))) (length (now (xs .entry))) (now (out .exit)) r ⌝ }
+{
+    let mut i: usize = 0;
+    while i < xs.len() {
+        out[at + i] = xs[i] as i64;
+        i += 1;
+    }
+    at + xs.len()
+}
+
+pub fn put_bytes(out: &mut [i64], at: usize, xs: &[u8]) -> usize
+    requires { ⌜ at + length (now xs) ≤ length (now out) ⌝ }
+    ensures { λ r. ⌜ Written (now (out .entry)) at (map pos (now (xs .entry))) (length (now (xs .entry))) (now (out .exit)) r ⌝ }
+{
+    let mut i: usize = 0;
+    while i < xs.len() {
+        out[at + i] = xs[i] as i64;
+        i += 1;
+    }
+    at + xs.len()
+}
+
+pub fn put_words(out: &mut [i64], at: usize, xs: &[u16]) -> usize
+    requires { ⌜ at + length (now xs) ≤ length (now out) ⌝ }
+    ensures { λ r. ⌜ Written (now (out .entry)) at (map pos (now (xs .entry))) (length (now (xs .entry))) (now (out .exit)) r ⌝ }
+{
+    let mut i: usize = 0;
+    while i < xs.len() {
+        out[at + i] = xs[i] as i64;
+        i += 1;
+    }
+    at + xs.len()
+}
+
+pub fn put_signed(out: &mut [i64], at: usize, xs: &[i16]) -> usize
+    requires { ⌜ at + length (now xs) ≤ length (now out) ⌝ }
+    ensures { λ r. ⌜ Written (now (out .entry)) at (now (xs .entry)) (length (now (xs .entry))) (now (out .exit)) r ⌝ }
+{
+    let mut i: usize = 0;
+    while i < xs.len() {
+        out[at + i] = xs[i] as i64;
+        i += 1;
+    }
+    at + xs.len()
+}
+
+pub fn put_one(out: &mut [i64], at: usize, x: i32) -> usize
+    requires { ⌜ at + 1 ≤ length (now out) ⌝ }
+    ensures { λ r. ⌜ Written (now (out .entry)) at (x ∷ []) 1 (now (out .exit)) r ⌝ }
+{
+    out[at] = x as i64;
+    at + 1
+}
