@@ -1,0 +1,27 @@
+-- `vectors::put_deltas` meets its contract. Assumes nothing.
+use mathlib.Core.Path.{_≡_}
+use Prim.Native.Nat.{_-_, _≤_}
+use lib.ListN.{length}
+use borrow.Author.Needs.{needs}
+use Rattle.vectors.proofs.put_deltas.Statement.{statement}
+use Rattle.vectors.proofs.put_deltas.Tie as tie
+
+abbrev Inv-loop : tie.InvT-loop
+Inv-loop out₀ i deltas k₀ out k = (k ≤ length deltas) × (length out ≡ length out₀)
+
+abbrev μ-loop : tie.MeasureT-loop
+μ-loop out₀ i deltas k₀ out k = length deltas - k
+
+pub put-deltas-spec : {M : Type 1} → statement M
+put-deltas-spec =
+    tie.close
+    (tie.spec
+    Inv-loop
+    μ-loop
+    (λ c. search needs)
+    (λ c κs. search needs)
+    (λ c. search needs)
+    (λ c. search needs)
+    (λ c. search needs)
+    (λ c. search needs)
+    (λ c. search needs))

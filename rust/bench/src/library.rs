@@ -1,0 +1,162 @@
+//! Both libraries behind one face, so that one loop runs both.
+
+use compare::records::{TILE, from};
+use mubanlig as ours;
+use oracle::headers as theirs;
+
+/// What a layout is read for.
+#[derive(Debug, Clone, Copy)]
+pub struct LayoutArgs {
+    pub sbmul: i32,
+    pub sb128: u8,
+    pub seq_sb128: u8,
+    pub w: i32,
+    pub h: i32,
+    pub level: u8,
+    pub tier: u8,
+}
+
+pub trait Library {
+    type Reader<'a>;
+    type Tile: Default;
+    type Header;
+    type Frame;
+
+    fn reader(data: &[u8]) -> Self::Reader<'_>;
+    fn get_bit(gb: &mut Self::Reader<'_>) -> u32;
+    fn get_bits(gb: &mut Self::Reader<'_>, n: i32) -> u32;
+    fn get_uniform(gb: &mut Self::Reader<'_>, max: u32) -> u32;
+    fn parse_tile_info(t: &mut Self::Tile, gb: &mut Self::Reader<'_>, a: &LayoutArgs) -> bool;
+    fn parse_seq_hdr(gb: &mut Self::Reader<'_>) -> Option<Self::Header>;
+    fn parse_tile_info_frmhdr(
+        hdr: &mut Self::Frame,
+        seqhdr: &Self::Header,
+        gb: &mut Self::Reader<'_>,
+    ) -> bool;
+
+    /// A frame and a sequence header from the arguments of a case.
+    fn frame(args: &[i64]) -> (Self::Frame, Self::Header);
+
+    /// A number of what was read, by which the two are held against each other.
+    fn tile_mark(t: &Self::Tile) -> u64;
+    fn header_mark(hdr: &Self::Header) -> u64;
+    fn frame_mark(hdr: &Self::Frame) -> u64;
+}
+
+/// The proved library, through the safe crate.
+pub struct Ours;
+/// The Rust.
+pub struct Theirs;
+
+/// What is the same text for both: the records have the same fields.
+macro_rules! same_for_both {
+    ($library:ident) => {
+        type Tile = $library::TileInfo;
+        type Header = $library::SequenceHeader;
+        type Frame = $library::FrameHeader;
+
+        #[inline(always)]
+        fn get_bit(gb: &mut Self::Reader<'_>) -> u32 {
+            gb.get_bit()
+        }
+
+        #[inline(always)]
+        fn get_bits(gb: &mut Self::Reader<'_>, n: i32) -> u32 {
+            gb.get_bits(n)
+        }
+
+        #[inline(always)]
+        fn get_uniform(gb: &mut Self::Reader<'_>, max: u32) -> u32 {
+            gb.get_uniform(max)
+        }
+
+        fn frame(args: &[i64]) -> (Self::Frame, Self::Header) {
+            (
+                from::$library::frame(args),
+                from::$library::sequence(&args[4 + TILE..]),
+            )
+        }
+
+        fn tile_mark(t: &Self::Tile) -> u64 {
+            u64::from(t.cols) + 100 * u64::from(t.rows) + 10_000 * u64::from(t.col_start_sb[1])
+        }
+
+        fn header_mark(hdr: &Self::Header) -> u64 {
+            hdr.max_width as u64 + u64::from(hdr.df_par_bits) + Self::tile_mark(&hdr.tiling.t)
+        }
+
+        fn frame_mark(hdr: &Self::Frame) -> u64 {
+            u64::from(hdr.sb128) + Self::tile_mark(&hdr.tiling.t)
+        }
+    };
+}
+
+impl Library for Ours {
+    type Reader<'a> = ours::GetBits<'a>;
+    same_for_both!(ours);
+
+    #[inline(always)]
+    fn reader(data: &[u8]) -> Self::Reader<'_> {
+        ours::GetBits::new(data)
+    }
+
+    #[inline(always)]
+    fn parse_tile_info(t: &mut Self::Tile, gb: &mut Self::Reader<'_>, a: &LayoutArgs) -> bool {
+        ours::parse_tile_info(
+            t,
+            gb,
+            a.sbmul,
+            a.sb128,
+            a.seq_sb128,
+            a.w,
+            a.h,
+            a.level,
+            a.tier,
+        )
+        .is_ok()
+    }
+
+    #[inline(always)]
+    fn parse_seq_hdr(gb: &mut Self::Reader<'_>) -> Option<Self::Header> {
+        ours::parse_seq_hdr(gb, false).ok()
+    }
+
+    #[inline(always)]
+    fn parse_tile_info_frmhdr(
+        hdr: &mut Self::Frame,
+        seqhdr: &Self::Header,
+        gb: &mut Self::Reader<'_>,
+    ) -> bool {
+        ours::parse_tile_info_frmhdr(hdr, seqhdr, gb).is_ok()
+    }
+}
+
+impl Library for Theirs {
+    type Reader<'a> = oracle::Reader<'a>;
+    same_for_both!(theirs);
+
+    #[inline(always)]
+    fn reader(data: &[u8]) -> Self::Reader<'_> {
+        oracle::Reader::new(data)
+    }
+
+    #[inline(always)]
+    fn parse_tile_info(t: &mut Self::Tile, gb: &mut Self::Reader<'_>, a: &LayoutArgs) -> bool {
+        gb.parse_tile_info(t, a.sbmul, a.sb128, a.seq_sb128, a.w, a.h, a.level, a.tier)
+            .is_ok()
+    }
+
+    #[inline(always)]
+    fn parse_seq_hdr(gb: &mut Self::Reader<'_>) -> Option<Self::Header> {
+        gb.parse_seq_hdr(false).ok()
+    }
+
+    #[inline(always)]
+    fn parse_tile_info_frmhdr(
+        hdr: &mut Self::Frame,
+        seqhdr: &Self::Header,
+        gb: &mut Self::Reader<'_>,
+    ) -> bool {
+        gb.parse_tile_info_frmhdr(hdr, seqhdr).is_ok()
+    }
+}

@@ -1,0 +1,96 @@
+//! The kinds of operation.
+
+#[derive(Debug, Clone, Copy, PartialEq, Eq, Default)]
+pub enum Kind {
+    #[default]
+    GetBit,
+    GetBits,
+    GetSbits,
+    GetVlc,
+    GetUniform,
+    GetRefUniform,
+    GetUleb128,
+    GetGolomb,
+    GetBitsSubexpU,
+    GetBitsSubexp,
+    Bytealign,
+    ParseTileInfo,
+    ParseSeqHdr,
+    ParseTileInfoFrmhdr,
+    ParseSegInfo,
+    /// byte_pos, remaining_bytes and remaining_slice.
+    Positions,
+    /// Several readings by one reader.
+    Rows,
+    TileRectangles,
+}
+
+impl Kind {
+    /// In the order of their numbers in the stored list, which has the first 15.
+    pub const ALL: [Self; 18] = [
+        Self::GetBit,
+        Self::GetBits,
+        Self::GetSbits,
+        Self::GetVlc,
+        Self::GetUniform,
+        Self::GetRefUniform,
+        Self::GetUleb128,
+        Self::GetGolomb,
+        Self::GetBitsSubexpU,
+        Self::GetBitsSubexp,
+        Self::Bytealign,
+        Self::ParseTileInfo,
+        Self::ParseSeqHdr,
+        Self::ParseTileInfoFrmhdr,
+        Self::ParseSegInfo,
+        Self::Positions,
+        Self::Rows,
+        Self::TileRectangles,
+    ];
+
+    /// The readings that answer a number, and bytealign.
+    pub const READINGS: usize = 11;
+
+    pub fn number(self) -> u64 {
+        self as u64
+    }
+
+    pub fn name(self) -> &'static str {
+        match self {
+            Self::GetBit => "get_bit",
+            Self::GetBits => "get_bits",
+            Self::GetSbits => "get_sbits",
+            Self::GetVlc => "get_vlc",
+            Self::GetUniform => "get_uniform",
+            Self::GetRefUniform => "get_ref_uniform",
+            Self::GetUleb128 => "get_uleb128",
+            Self::GetGolomb => "get_golomb",
+            Self::GetBitsSubexpU => "get_bits_subexp_u",
+            Self::GetBitsSubexp => "get_bits_subexp",
+            Self::Bytealign => "bytealign",
+            Self::ParseTileInfo => "parse_tile_info",
+            Self::ParseSeqHdr => "parse_seq_hdr",
+            Self::ParseTileInfoFrmhdr => "parse_tile_info_frmhdr",
+            Self::ParseSegInfo => "parse_seg_info",
+            Self::Positions => "positions",
+            Self::Rows => "rows",
+            Self::TileRectangles => "tile_rectangles",
+        }
+    }
+
+    pub fn named(name: &str) -> Option<Self> {
+        Self::ALL.into_iter().find(|kind| kind.name() == name)
+    }
+
+    /// Whether the answer is document 01's number and a record stands beside it.
+    pub fn has_answer(self) -> bool {
+        matches!(
+            self,
+            Self::ParseTileInfo
+                | Self::ParseSeqHdr
+                | Self::ParseTileInfoFrmhdr
+                | Self::ParseSegInfo
+                | Self::TileRectangles
+        )
+    }
+}

@@ -1,0 +1,71 @@
+//! The comparison, and the stored list of the Rust's answers.
+
+use compare::options::{Options, USAGE};
+use compare::run::{Plan, differs, run};
+use compare::{rebuild, report, shrink, vectors};
+use std::process::ExitCode;
+
+fn main() -> ExitCode {
+    let words: Vec<String> = std::env::args().skip(1).collect();
+    if words.iter().any(|word| word == "--help") {
+        println!("{USAGE}");
+        return ExitCode::SUCCESS;
+    }
+    let options = match Options::parse(&words) {
+        Ok(options) => options,
+        Err(why) => {
+            eprintln!("compare: {why}\n{USAGE}");
+            return ExitCode::from(2);
+        }
+    };
+    if let Some(folder) = options.folder.as_ref().filter(|dir| rebuild::is_other(dir)) {
+        return rebuild::run_over(folder, &options.rest);
+    }
+    match &options.vectors {
+        Some(file) => write_vectors(file, options.seed),
+        None => compare(&options),
+    }
+}
+
+fn write_vectors(file: &std::path::Path, seed: u64) -> ExitCode {
+    let cases = vectors::cases(seed);
+    let bytes = vectors::stored(&cases);
+    if let Err(e) = std::fs::write(file, &bytes) {
+        eprintln!("compare: {}: {e}", file.display());
+        return ExitCode::from(2);
+    }
+    println!("{} cases, {} bytes", cases.len(), bytes.len());
+    ExitCode::SUCCESS
+}
+
+fn compare(options: &Options) -> ExitCode {
+    // A panic is reported as a difference.
+    std::panic::set_hook(Box::new(|_| {}));
+    println!(
+        "seed {}, {} random cases of each kind, all inputs of up to {} bytes",
+        options.seed,
+        report::grouped(options.cases),
+        options.exhaustive_bytes
+    );
+    let mut tallies = Vec::new();
+    for &kind in &options.kinds {
+        let plan = Plan {
+            kind,
+            seed: options.seed,
+            cases: options.cases,
+            exhaustive_bytes: options.exhaustive_bytes,
+            threads: options.threads,
+        };
+        match run(&plan) {
+            Ok(tally) => tallies.push((kind, tally)),
+            Err(case) => {
+                println!("a difference; the smallest input that shows it:\n");
+                print!("{}", report::difference(&shrink::shrink(case, differs)));
+                return ExitCode::FAILURE;
+            }
+        }
+    }
+    println!("\n{}", report::summary(&tallies));
+    println!("no difference but the known ones");
+    ExitCode::SUCCESS
+}

@@ -1,0 +1,110 @@
+//! A case run by our library.
+
+use crate::case::{Case, Outcome};
+use crate::kind::Kind;
+use crate::records::{Numbers, SEG, TILE, from::ours as from};
+use crate::rules::sort_tiles;
+use mubanlig::{GetBits, Result};
+
+pub fn run(case: &Case, out: &mut Outcome) {
+    out.clear();
+    let a = &case.args;
+    let gb = &mut GetBits::at_place(&case.data, case.place);
+    match case.kind {
+        Kind::ParseTileInfo => parse_tile_info(a, gb, out),
+        Kind::ParseSeqHdr => match mubanlig::parse_seq_hdr(gb, a[0] != 0) {
+            Ok(hdr) => hdr.numbers(&mut out.record),
+            Err(refusal) => out.answer = i64::from(refusal.number()),
+        },
+        Kind::ParseTileInfoFrmhdr => parse_tile_info_frmhdr(a, gb, out),
+        Kind::ParseSegInfo => {
+            let mut seg = from::seg_info(a);
+            mubanlig::parse_seg_info(&mut seg, gb, a[SEG] != 0);
+            seg.numbers(&mut out.record);
+        }
+        Kind::Positions => {
+            let rest = gb.remaining_slice();
+            out.answer = gb.byte_pos() as i64;
+            out.record.push(gb.remaining_bytes() as i64);
+            out.record.extend(rest.iter().map(|&byte| i64::from(byte)));
+            return; // these don't move the reader
+        }
+        Kind::Rows => {
+            for call in a.chunks_exact(4) {
+                let kind = Kind::ALL[call[0] as usize];
+                let value = reading(kind, gb, &call[1..]);
+                let place = gb.place();
+                out.record.extend([
+                    value,
+                    place.byte as i64,
+                    i64::from(place.used),
+                    i64::from(place.error),
+                ]);
+            }
+        }
+        Kind::TileRectangles => return tile_rectangles(a, out),
+        kind => out.answer = reading(kind, gb, a),
+    }
+    out.place = gb.place();
+}
+
+fn reading(kind: Kind, gb: &mut GetBits, a: &[i64]) -> i64 {
+    match kind {
+        Kind::GetBit => gb.get_bit().into(),
+        Kind::GetBits => gb.get_bits(a[0] as i32).into(),
+        Kind::GetSbits => gb.get_sbits(a[0] as i32).into(),
+        Kind::GetVlc => gb.get_vlc().into(),
+        Kind::GetUniform => gb.get_uniform(a[0] as u32).into(),
+        Kind::GetRefUniform => gb.get_ref_uniform(a[0] as u32, a[1] as u32).into(),
+        Kind::GetUleb128 => gb.get_uleb128().into(),
+        Kind::GetGolomb => gb.get_golomb(a[0] as u32).into(),
+        Kind::GetBitsSubexpU => gb
+            .get_bits_subexp_u(a[0] as u32, a[1] as u32, a[2] as i32)
+            .into(),
+        Kind::GetBitsSubexp => gb.get_bits_subexp(a[0] as i32, a[1] as u32).into(),
+        Kind::Bytealign => {
+            gb.bytealign();
+            0
+        }
+        kind => unreachable!("{} is no reading", kind.name()),
+    }
+}
+
+fn number(answer: Result<()>) -> i64 {
+    answer.map_or_else(|refusal| i64::from(refusal.number()), |()| 0)
+}
+
+fn parse_tile_info(a: &[i64], gb: &mut GetBits, out: &mut Outcome) {
+    let mut t = from::tile_info(a);
+    let b = &a[TILE..];
+    out.answer = number(mubanlig::parse_tile_info(
+        &mut t,
+        gb,
+        b[0] as i32,
+        b[1] as u8,
+        b[2] as u8,
+        b[3] as i32,
+        b[4] as i32,
+        b[5] as u8,
+        b[6] as u8,
+    ));
+    t.numbers(&mut out.record);
+}
+
+fn parse_tile_info_frmhdr(a: &[i64], gb: &mut GetBits, out: &mut Outcome) {
+    let mut hdr = from::frame(a);
+    let seqhdr = from::sequence(&a[4 + TILE..]);
+    out.answer = number(mubanlig::parse_tile_info_frmhdr(&mut hdr, &seqhdr, gb));
+    hdr.sb128.numbers(&mut out.record);
+    hdr.tiling.t.numbers(&mut out.record);
+}
+
+fn tile_rectangles(a: &[i64], out: &mut Outcome) {
+    let t = from::tile_info(a);
+    let mut buffer: Vec<u32> = (0..a[TILE + 1]).map(|i| (a[TILE + 2] + i) as u32).collect();
+    out.answer = number(mubanlig::tile_rectangles(&t, a[TILE] as u8, &mut buffer));
+    out.record.extend(buffer.iter().map(|&n| i64::from(n)));
+    if out.answer == 0 {
+        sort_tiles(&mut out.record, t.cols, t.rows);
+    }
+}

@@ -1,0 +1,257 @@
+//! Records as rows of numbers, the form in which they cross to the library: depth first through the library's
+//! nested records, in the order of their declaration.
+
+use crate::ffi::{HEADER_NUMBERS, TILE_NUMBERS};
+use crate::headers::{
+    AdaptiveBoolean, CropInfo, MAX_TILE_COLS, MAX_TILE_ROWS, PixelLayout, SegmentationDataSet,
+    SeqSegmentation, SeqTiling, SequenceHeader, TileInfo,
+};
+
+const COLS: usize = 9;
+const ROWS: usize = COLS + MAX_TILE_COLS + 1;
+
+#[inline]
+pub(crate) fn tile_numbers(t: &TileInfo) -> [u16; TILE_NUMBERS] {
+    let mut row = [0; TILE_NUMBERS];
+    row[0] = u16::from(t.uniform);
+    row[1] = u16::from(t.min_log2_cols);
+    row[2] = u16::from(t.max_log2_cols);
+    row[3] = u16::from(t.log2_cols);
+    row[4] = u16::from(t.cols);
+    row[5] = u16::from(t.min_log2_rows);
+    row[6] = u16::from(t.max_log2_rows);
+    row[7] = u16::from(t.log2_rows);
+    row[8] = u16::from(t.rows);
+    row[COLS..ROWS].copy_from_slice(&t.col_start_sb[..]);
+    row[ROWS..].copy_from_slice(&t.row_start_sb[..]);
+    row
+}
+
+#[inline]
+pub(crate) fn set_tile_info(t: &mut TileInfo, row: &[u16; TILE_NUMBERS]) {
+    t.uniform = row[0] != 0;
+    t.min_log2_cols = row[1] as u8;
+    t.max_log2_cols = row[2] as u8;
+    t.log2_cols = row[3] as u8;
+    t.cols = row[4] as u8;
+    t.min_log2_rows = row[5] as u8;
+    t.max_log2_rows = row[6] as u8;
+    t.log2_rows = row[7] as u8;
+    t.rows = row[8] as u8;
+    t.col_start_sb.copy_from_slice(&row[COLS..ROWS]);
+    t.row_start_sb.copy_from_slice(&row[ROWS..]);
+}
+
+/// Takes the numbers of a header one after the other.
+struct Row<'a> {
+    numbers: &'a [i64; HEADER_NUMBERS],
+    next: usize,
+}
+
+impl Row<'_> {
+    #[inline(always)]
+    fn number(&mut self) -> i64 {
+        let number = self.numbers[self.next];
+        self.next += 1;
+        number
+    }
+
+    #[inline(always)]
+    fn u8(&mut self) -> u8 {
+        self.number() as u8
+    }
+
+    #[inline(always)]
+    fn flag(&mut self) -> bool {
+        self.number() != 0
+    }
+
+    #[inline(always)]
+    fn adaptive(&mut self) -> AdaptiveBoolean {
+        match self.number() {
+            0 => AdaptiveBoolean::Off,
+            1 => AdaptiveBoolean::On,
+            _ => AdaptiveBoolean::Adaptive,
+        }
+    }
+
+    #[inline(always)]
+    fn layout(&mut self) -> PixelLayout {
+        match self.number() {
+            0 => PixelLayout::I400,
+            1 => PixelLayout::I420,
+            2 => PixelLayout::I422,
+            _ => PixelLayout::I444,
+        }
+    }
+
+    #[inline(always)]
+    fn bytes(&mut self) -> [u8; 8] {
+        std::array::from_fn(|_| self.u8())
+    }
+
+    #[inline(always)]
+    fn starts<const N: usize>(&mut self) -> Box<[u16; N]> {
+        let starts = &self.numbers[self.next..self.next + N];
+        self.next += N;
+        Box::new(std::array::from_fn(|i| starts[i] as u16))
+    }
+
+    #[inline(always)]
+    fn crop(&mut self) -> CropInfo {
+        CropInfo {
+            enabled: self.flag(),
+            left: self.number() as u32,
+            right: self.number() as u32,
+            top: self.number() as u32,
+            bottom: self.number() as u32,
+        }
+    }
+
+    #[inline(always)]
+    fn segmentation(&mut self) -> SeqSegmentation {
+        SeqSegmentation {
+            ext: self.flag(),
+            info_present: self.flag(),
+            adaptive: self.flag(),
+            d: SegmentationDataSet {
+                delta_q: std::array::from_fn(|_| self.number() as i16),
+                delta_q_mask: self.number() as u16,
+                skip_mask: self.number() as u16,
+                globalmv_mask: self.number() as u16,
+            },
+        }
+    }
+
+    #[inline(always)]
+    fn tiling(&mut self) -> SeqTiling {
+        SeqTiling {
+            present: self.adaptive(),
+            t: TileInfo {
+                uniform: self.flag(),
+                min_log2_cols: self.u8(),
+                max_log2_cols: self.u8(),
+                log2_cols: self.u8(),
+                cols: self.u8(),
+                min_log2_rows: self.u8(),
+                max_log2_rows: self.u8(),
+                log2_rows: self.u8(),
+                rows: self.u8(),
+                col_start_sb: self.starts::<{ MAX_TILE_COLS + 1 }>(),
+                row_start_sb: self.starts::<{ MAX_TILE_ROWS + 1 }>(),
+            },
+        }
+    }
+}
+
+/// The header of a row of numbers. The fields stand in the order of the row, not in that of their declaration.
+pub(crate) fn sequence_header(numbers: &[i64; HEADER_NUMBERS]) -> SequenceHeader {
+    let mut row = Row { numbers, next: 0 };
+    SequenceHeader {
+        id: row.u8(),
+        profile: row.u8(),
+        reduced_still_picture_header: row.flag(),
+        level: row.u8(),
+        tier: row.u8(),
+        layout: row.layout(),
+        ss_hor: row.u8(),
+        ss_ver: row.u8(),
+        hbd: row.u8(),
+        lcr_id: row.u8(),
+        still_picture: row.flag(),
+        max_tlayer_id: row.u8(),
+        max_mlayer_id: row.u8(),
+        monotonic: row.flag(),
+        width_n_bits: row.u8(),
+        height_n_bits: row.u8(),
+        max_width: row.number() as i32,
+        max_height: row.number() as i32,
+        crop: row.crop(),
+        tlayer_dependency_present: row.flag(),
+        mlayer_dependency_present: row.flag(),
+        tlayer_dependencies: row.bytes(),
+        mlayer_dependencies: row.bytes(),
+        sb128: row.u8(),
+        sdp: row.flag(),
+        ext_sdp: row.flag(),
+        ext_partitions: row.flag(),
+        uneven_4way_partitions: row.flag(),
+        max_pb_aspect_ratio_log2: row.u8(),
+        segmentation: row.segmentation(),
+        intra_dip: row.flag(),
+        intra_edge_filter: row.flag(),
+        mrls: row.flag(),
+        cfl: row.flag(),
+        cfl_ds_filter_index: row.u8(),
+        mhccp: row.flag(),
+        ibp: row.flag(),
+        motion_modes: row.u8(),
+        frame_motion_modes_present: row.flag(),
+        six_param_warp_delta: row.flag(),
+        masked_compound: row.flag(),
+        ref_frame_mvs: row.flag(),
+        reduced_ref_frame_mvs_mode: row.u8(),
+        order_hint_n_bits: row.u8(),
+        refmv_bank: row.flag(),
+        drl_reorder: row.u8(),
+        explicit_ref_frame_map: row.flag(),
+        ref_frames: row.u8(),
+        ref_frames_log2: row.u8(),
+        number_of_bits_for_lt_frame_id: row.u8(),
+        def_max_drl_bits: row.u8(),
+        allow_frame_max_drl_bits: row.flag(),
+        def_max_bvp_drl_bits: row.u8(),
+        allow_max_bvp_drl_bits: row.flag(),
+        num_same_ref_comp: row.u8(),
+        tip: row.flag(),
+        tip_hole_fill: row.flag(),
+        mv_traj: row.flag(),
+        bawp: row.flag(),
+        cwp: row.flag(),
+        imp_msk_bld: row.flag(),
+        db_sub_pu: row.flag(),
+        tip_explicit_qp: row.flag(),
+        opfl_refine: row.flag(),
+        refine_mv: row.flag(),
+        tip_refine_mv: row.flag(),
+        bru: row.flag(),
+        adaptive_mvd: row.flag(),
+        mvd_sign_derive: row.flag(),
+        flex_mvres: row.flag(),
+        global_motion: row.flag(),
+        short_refresh_frame_flags: row.flag(),
+        screen_content_tools: row.adaptive(),
+        force_integer_mv: row.adaptive(),
+        fsc: row.flag(),
+        idtx_intra: row.flag(),
+        ist: [row.flag(), row.flag()],
+        chroma_dctonly: row.flag(),
+        inter_ddt: row.flag(),
+        reduced_tx_part_set: row.flag(),
+        cctx: row.flag(),
+        tcq: row.adaptive(),
+        parity_hiding: row.flag(),
+        avg_cdf: row.flag(),
+        avg_cdf_type: row.u8(),
+        separate_uv_delta_q: row.flag(),
+        equal_ac_dc_q: row.flag(),
+        base_ydc_dq: row.number() as i8,
+        ydc_dq_enabled: row.flag(),
+        base_uvdc_dq: row.u8(),
+        uvdc_dq_enabled: row.flag(),
+        base_uvac_dq: row.u8(),
+        uvac_dq_enabled: row.flag(),
+        disable_loopfilters_across_tiles: row.flag(),
+        cdef: row.flag(),
+        gdf: row.flag(),
+        gdf_unit_matches_sbsz: row.flag(),
+        restoration: row.flag(),
+        rst_disable_mask: [row.u8(), row.u8()],
+        ccso: row.flag(),
+        ccso_unit_matches_sbsz: row.flag(),
+        cdef_on_skiptx: row.adaptive(),
+        df_par_bits: row.u8(),
+        tiling: row.tiling(),
+        film_grain_present: row.flag(),
+    }
+}

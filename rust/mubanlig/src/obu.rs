@@ -1,0 +1,161 @@
+//! The functions that read a record.
+
+use crate::error::{Result, answer};
+use crate::ffi::{self, HEADER_NUMBERS, RawSequence};
+use crate::flat;
+use crate::getbits::GetBits;
+use crate::headers::{FrameHeader, SegmentationDataSet, SequenceHeader, TileInfo};
+
+/// Reads the features of 8 segments, or of 16 with the extension. The masks are ORed onto those of `seg`.
+///
+/// ```
+/// use mubanlig::{GetBits, SegmentationDataSet, parse_seg_info};
+///
+/// let mut seg = SegmentationDataSet::default();
+/// // Segment 0: a delta of -1, skipped; all other flags 0.
+/// let mut gb = GetBits::new(&[0xFF, 0xF0, 0x00, 0x00, 0x00]);
+/// parse_seg_info(&mut seg, &mut gb, false);
+/// assert_eq!((seg.delta_q[0], seg.delta_q_mask, seg.skip_mask, seg.globalmv_mask), (-1, 1, 1, 0));
+/// ```
+pub fn parse_seg_info(seg: &mut SegmentationDataSet, gb: &mut GetBits, ext: bool) {
+    let mut masks = [seg.delta_q_mask, seg.skip_mask, seg.globalmv_mask];
+    let (data, place) = gb.parts();
+    // Both buffers have their full length, so the answer is always 0.
+    ffi::parse_seg_info(data, place, &mut seg.delta_q, &mut masks, ext);
+    [seg.delta_q_mask, seg.skip_mask, seg.globalmv_mask] = masks;
+}
+
+/// Reads a tile layout into `thdr`. A refusal leaves it as it was.
+///
+/// `sbmul` is 2 for the frame's code 1 with the sequence's code 2, else 1 and both codes are equal. Width and height are
+/// 1 to 65,536, the level at most 31, the tier at most 1. Anything else is [`WrongArguments`](crate::Error::WrongArguments).
+///
+/// The reader's error isn't looked at: short data may be accepted with the error set.
+///
+/// ```
+/// use mubanlig::{GetBits, TileInfo, parse_tile_info};
+///
+/// // A uniform layout of 330 by 64 samples: six superblocks, the last of which isn't counted first.
+/// let mut gb = GetBits::new(&[0xE0]);
+/// let mut layout = TileInfo::default();
+/// parse_tile_info(&mut layout, &mut gb, 1, 0, 0, 330, 64, 0, 0)?;
+/// assert!(layout.uniform);
+/// assert_eq!(layout.col_start_sb[..=4], [0, 2, 3, 4, 6]);
+///
+/// // One of 256 by 128 that tells each size.
+/// let mut gb = GetBits::new(&[0x28]);
+/// parse_tile_info(&mut layout, &mut gb, 1, 0, 0, 256, 128, 0, 0)?;
+/// assert_eq!((layout.cols, layout.rows), (3, 1));
+/// assert_eq!(layout.col_start_sb[..=3], [0, 2, 3, 4]);
+/// assert_eq!(layout.col_start_sb[4], 6); // an old number behind the last start
+///
+/// // 65 superblocks without data: 64 columns of one don't suffice.
+/// let refusal = parse_tile_info(&mut layout, &mut GetBits::new(&[]), 1, 0, 0, 4160, 64, 0, 0);
+/// assert_eq!(refusal.unwrap_err().number(), 2);
+/// assert_eq!(layout.cols, 3);
+/// # Ok::<(), mubanlig::Error>(())
+/// ```
+#[allow(clippy::too_many_arguments)]
+pub fn parse_tile_info(
+    thdr: &mut TileInfo,
+    gb: &mut GetBits,
+    sbmul: i32,
+    sb128: u8,
+    seq_sb128: u8,
+    w: i32,
+    h: i32,
+    level: u8,
+    tier: u8,
+) -> Result<()> {
+    let mut row = flat::tile_numbers(thdr);
+    let (data, place) = gb.parts();
+    answer(ffi::parse_tile_info(
+        data, place, &mut row, sbmul, sb128, seq_sb128, w, h, level, tier,
+    ))?;
+    flat::set_tile_info(thdr, &row);
+    Ok(())
+}
+
+/// Reads a sequence header. If `strict`, a trailing one bit has to stand behind the extension bit.
+///
+/// ```
+/// use mubanlig::{Error, GetBits, parse_seq_hdr};
+///
+/// let mut data = [0x82, 0x05, 0x00, 0x00, 0x00, 0x80, 0x10, 0x02];
+/// assert!(parse_seq_hdr(&mut GetBits::new(&data), true).is_ok());
+///
+/// // Without the trailing bit a strict header is refused, any other accepted.
+/// data[7] = 0x00;
+/// let refusal = parse_seq_hdr(&mut GetBits::new(&data), true);
+/// assert_eq!(refusal, Err(Error::InvalidTrailingBits));
+/// assert!(parse_seq_hdr(&mut GetBits::new(&data), false).is_ok());
+///
+/// // Without its last byte both are.
+/// let refusal = parse_seq_hdr(&mut GetBits::new(&data[..7]), false);
+/// assert_eq!(refusal, Err(Error::InvalidSequenceHeader));
+/// ```
+pub fn parse_seq_hdr(gb: &mut GetBits, strict: bool) -> Result<SequenceHeader> {
+    let mut row = [0; HEADER_NUMBERS];
+    let (data, place) = gb.parts();
+    answer(ffi::parse_seq_hdr(data, place, strict, &mut row))?;
+    Ok(flat::sequence_header(&row))
+}
+
+/// Sets a frame's superblock code and its layout, which is the sequence's or is read. A refusal leaves `hdr` as it was.
+///
+/// The reader's error isn't looked at: short data may be accepted with the error set.
+///
+/// ```
+/// use mubanlig::{
+///     AdaptiveBoolean, FrameHeader, FrameType, GetBits, SequenceHeader, parse_tile_info,
+///     parse_tile_info_frmhdr,
+/// };
+///
+/// let mut seqhdr = SequenceHeader { max_width: 256, max_height: 64, ..Default::default() };
+/// seqhdr.tiling.present = AdaptiveBoolean::On;
+/// let t = &mut seqhdr.tiling.t;
+/// parse_tile_info(t, &mut GetBits::new(&[0xC0]), 1, 0, 0, 256, 64, 0, 0)?;
+/// assert_eq!(t.col_start_sb[..=2], [0, 2, 4]);
+///
+/// let mut hdr = FrameHeader {
+///     frame_type: FrameType::Inter,
+///     width: 192,
+///     height: 64,
+///     ..Default::default()
+/// };
+/// parse_tile_info_frmhdr(&mut hdr, &seqhdr, &mut GetBits::new(&[]))?;
+/// // Reused whole, though the frame has three superblocks.
+/// assert_eq!(hdr.tiling.t.col_start_sb[..=2], [0, 2, 4]);
+/// # Ok::<(), mubanlig::Error>(())
+/// ```
+pub fn parse_tile_info_frmhdr(
+    hdr: &mut FrameHeader,
+    seqhdr: &SequenceHeader,
+    gb: &mut GetBits,
+) -> Result<()> {
+    let mut sb128 = hdr.sb128;
+    let mut row = flat::tile_numbers(&hdr.tiling.t);
+    let seq = RawSequence {
+        sb128: seqhdr.sb128,
+        max_width: seqhdr.max_width,
+        max_height: seqhdr.max_height,
+        level: seqhdr.level,
+        tier: seqhdr.tier,
+        present: seqhdr.tiling.present as u8,
+        tiling: &flat::tile_numbers(&seqhdr.tiling.t),
+    };
+    let (data, place) = gb.parts();
+    answer(ffi::parse_tile_info_frmhdr(
+        data,
+        place,
+        hdr.frame_type as u8,
+        hdr.width,
+        hdr.height,
+        &mut sb128,
+        &mut row,
+        &seq,
+    ))?;
+    hdr.sb128 = sb128;
+    flat::set_tile_info(&mut hdr.tiling.t, &row);
+    Ok(())
+}
