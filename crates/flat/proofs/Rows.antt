@@ -1,11 +1,11 @@
 -- Laws of rows of numbers in a buffer. Assumes nothing.
-use mathlib.Core.Path.{_≡_, refl, sym, ap, subst, _∙_}
+use mathlib.Core.Path.{_≡_, refl, sym, ap, _∙_}
 use mathlib.Core.List.{List, [], _∷_, _++_, map, append-assoc, append-nil}
 use Prim.Native.Nat.{ℕ, suc, _+_, _^_, _<_, _≤_}
 use native.Mathlib.Nat.{zero-add}
 use native.Mathlib.Numerals.{add-one}
 use native.Mathlib.Omega.{arith}
-use lib.ListN.{length, getD, set, take, drop, length-append, length-map, length-set, length-drop, replicate, length-replicate, List·getD-map}
+use lib.ListN.{length, getD, set, take, drop, length-append, length-map, length-set, replicate, length-replicate, List·getD-map}
 use lib.Dec.{T, leb}
 use lib.IntN.{ℤ, pos}
 use lib.Signed.{mag}
@@ -13,7 +13,7 @@ use mir.Syntax.{Width, w64}
 use mir.Val.{SFits, hbits, toZ, ofZ}
 use mir.Facts.{sfits-widen, toZ-ofZ}
 use mir.ValLaws.{toZ-pos}
-use lib.Seq.{append-snoc, set-split, paste, paste-zero, paste-suc, length-paste, length-take-le, take-length, take-at, getD-take, drop-length, drop-drop, drop-append-add}
+use lib.Seq.{append-snoc, set-split, paste, paste-zero, paste-suc, length-take-le, take-length, take-at, getD-take, drop-length, drop-drop, drop-append-add}
 use borrow.Author.Tests.{le-leb, lt-leb}
 use Rattle.getbits.proofs.Chain.{taken, left}
 use Rattle.flat.specs.Layout.{inFront}

@@ -1,8 +1,6 @@
 // The loops: a row of numbers goes into a buffer or comes out of one.
 ghost use mathlib.Core.Path.{_≡_};
-ghost use mathlib.Core.List.{[], _∷_, map};
 ghost use Prim.Native.Nat.{_+_, _≤_};
-ghost use lib.IntN.{pos};
 ghost use lib.ListN.{length, take, drop};
 ghost use Rattle.flat.specs.Rows.{Written};
 

@@ -33,7 +33,6 @@ use Rattle.seq_residual.specs.declared.Filters.{Filters}
 use Rattle.seq_residual.specs.declared.Quant.{Quant}
 use Rattle.seq_residual.specs.declared.Residual.{Residual}
 use Rattle.seq_residual.specs.declared.Transform.{Transform}
-use Rattle.tile_layout.specs.declared.TileInfo.{TileInfo}
 use Rattle.seq_fields.specs.declared.AdaptiveBoolean.the-variants.{Off, On, Adaptive}
 use Rattle.seq_fields.specs.declared.PixelLayout.the-variants.{I400, I420, I422, I444}
 use Rattle.flat.specs.Layout.{flatTileInfo}
@@ -59,7 +58,7 @@ adaptiveNumber Adaptive = 2
 abbrev pub flatStart : Start → List ℤ
 flatStart s = numbers (s .id ∷ s .profile ∷ [])
 
--- level and tier
+-- the reduced form, level and tier
 abbrev pub flatLevel : Level → List ℤ
 flatLevel l = numbers (bitOf (l .«reduced_still_picture_header») ∷ l .level ∷ l .tier ∷ [])
 
@@ -83,7 +82,7 @@ flatCrop c = numbers (bitOf (c .enabled) ∷ c .left ∷ c .right ∷ c .top ∷
 unfoldable pub flatDependencies : Dependencies → List ℤ
 flatDependencies d = numbers (bitOf (d .«tlayer_dependency_present») ∷ bitOf (d .«mlayer_dependency_present») ∷ []) ++ numbers (d .«tlayer_dependencies») ++ numbers (d .«mlayer_dependencies»)
 
--- these four
+-- the picture: the last four
 unfoldable pub flatPicture : Picture → List ℤ
 flatPicture p = flatLayers (p .layers) ++ flatSize (p .size) ++ flatCrop (p .crop) ++ flatDependencies (p .dependencies)
 
@@ -99,7 +98,7 @@ flatSegmentation s = numbers (bitOf (s .ext) ∷ bitOf (s .«info_present») ∷
 abbrev pub flatIntra : Intra → List ℤ
 flatIntra i = numbers (bitOf (i .«intra_dip») ∷ bitOf (i .«intra_edge_filter») ∷ bitOf (i .mrls) ∷ bitOf (i .cfl) ∷ i .«cfl_ds_filter_index» ∷ bitOf (i .mhccp) ∷ bitOf (i .ibp) ∷ [])
 
--- these three
+-- the blocks: the last three
 unfoldable pub flatBlocks : Blocks → List ℤ
 flatBlocks b = flatPartition (b .partition) ++ flatSegmentation (b .segmentation) ++ flatIntra (b .intra)
 
@@ -127,7 +126,7 @@ flatMv m = numbers (bitOf (m .«opfl_refine») ∷ bitOf (m .«refine_mv») ∷ 
 abbrev pub flatScreen : Screen → List ℤ
 flatScreen s = numbers (adaptiveNumber (s .«screen_content_tools») ∷ adaptiveNumber (s .«force_integer_mv») ∷ [])
 
--- these four
+-- inter tools: the last four
 unfoldable pub flatInter : Inter → List ℤ
 flatInter i = flatDrl (i .drl) ++ flatTip (i .tip) ++ flatMv (i .mv) ++ flatScreen (i .screen)
 
@@ -145,7 +144,7 @@ flatQuant q = numbers (bitOf (q .«separate_uv_delta_q») ∷ bitOf (q .«equal_
     ++ (q .«base_ydc_dq» ∷ [])
     ++ numbers (bitOf (q .«ydc_dq_enabled») ∷ q .«base_uvdc_dq» ∷ bitOf (q .«uvdc_dq_enabled») ∷ q .«base_uvac_dq» ∷ bitOf (q .«uvac_dq_enabled») ∷ [])
 
--- these three
+-- the residual: the last three
 unfoldable pub flatResidual : Residual → List ℤ
 flatResidual x = flatTransform (x .transform) ++ flatEntropy (x .entropy) ++ flatQuant (x .quant)
 

@@ -1,11 +1,11 @@
 // A sequence header as flat numbers: each record in the order of its declaration.
 ghost use mathlib.Core.List.{_++_};
+ghost use mathlib.Core.Path.{_≡_};
 ghost use Prim.Native.Nat.{_+_, _≤_};
 ghost use lib.ListN.{length};
-ghost use Rattle.flat_hdr.specs.Header.{numbers, layoutNumber, adaptiveNumber, flatStart, flatLevel, flatFormat, flatLayers, flatSize, flatCrop, flatDependencies, flatPicture, flatPartition, flatSegmentation, flatIntra, flatBlocks, flatMotion, flatRefFrames, flatDrl, flatTip, flatMv, flatScreen, flatInter, flatTransform, flatEntropy, flatQuant, flatResidual, flatFilters, flatTiling, flatSeqHdr};
 ghost use Rattle.flat.specs.Layout.{inFront, flatTileInfo};
 ghost use Rattle.flat.specs.Rows.{Written};
-ghost use mathlib.Core.Path.{_≡_};
+ghost use Rattle.flat_hdr.specs.Header.{numbers, layoutNumber, adaptiveNumber, flatStart, flatLevel, flatFormat, flatLayers, flatSize, flatCrop, flatDependencies, flatPicture, flatPartition, flatSegmentation, flatIntra, flatBlocks, flatMotion, flatRefFrames, flatDrl, flatTip, flatMv, flatScreen, flatInter, flatTransform, flatEntropy, flatQuant, flatResidual, flatFilters, flatTiling, flatSeqHdr};
 use flat::counts;
 use seq_blocks::Blocks;
 use seq_blocks::Intra;

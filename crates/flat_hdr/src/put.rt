@@ -1,9 +1,8 @@
-// The loops: a row of numbers goes into a buffer or comes out of one.
-ghost use mathlib.Core.Path.{_≡_};
+// The loops: a row of numbers goes into a buffer, widened.
 ghost use mathlib.Core.List.{[], _∷_, map};
 ghost use Prim.Native.Nat.{_+_, _≤_};
 ghost use lib.IntN.{pos};
-ghost use lib.ListN.{length, take, drop};
+ghost use lib.ListN.{length};
 ghost use Rattle.flat.specs.Rows.{Written};
 
 pub fn put_numbers(out: &mut [i64], at: usize, xs: &[u32]) -> usize

@@ -5,7 +5,7 @@ use borrow.Author.Tests.{le-leb, lt-leb}
 use lib.Dec.{T}
 use lib.ListN.{length}
 use Rattle.answers.specs.Numbers.{numberOf}
-use Rattle.getbits.proofs.Chain.{taken, left}
+use Rattle.getbits.proofs.Chain.{taken}
 use Rattle.capi.proofs.mubanlig_tile_rectangles.Statement.{statement}
 use Rattle.capi.proofs.mubanlig_tile_rectangles.Tie as tie
 
@@ -20,7 +20,8 @@ returns-2 c =
     let t = k .before .before in
     let a = t .before .before .before .before .args in
     let e = rw (t .tile-info-of .ensures) at (k .tile-rectangles .ensures) in
-    rw (le-leb 139 (length (a .t .now)) (t .before .if1 .left), ← (e .0)) (c .number .ensures, e .1)
+    let z = e .0 ∙ sym (taken _ _ _ (le-leb 139 (length (a .t .now)) (t .before .if1 .left))) in
+    (c .number .ensures ∙ ap numberOf z, rw z at (e .1))
 
 pub mubanlig-tile-rectangles-spec : {M : Type 1} → statement M
 mubanlig-tile-rectangles-spec =
