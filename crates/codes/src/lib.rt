@@ -7,8 +7,10 @@ use getbits::Number;
 use getbits::Place;
 use getbits::Signed;
 use getbits::get_bit;
+use getbits::look;
 use getbits::read_bits;
 use getbits::refuse;
+use getbits::remaining_bytes;
 
 mod intops;
 
@@ -66,6 +68,18 @@ pub fn get_uniform(s: &[u8], p: Place, max: u32) -> Number
     }
     let l = ulog2(max) + 1;
     let m = power(l) - max;
+    // Where four bytes are left, the l bits of the longer form are there, and are looked at once.
+    if 4 <= remaining_bytes(s, p) {
+        let w = look(s, p, l);
+        if w / 2 < m {
+            let r = read_bits(s, p, l - 1);
+            let next = r.next;
+            return Number { value: w / 2, next };
+        }
+        let r = read_bits(s, p, l);
+        let next = r.next;
+        return Number { value: w - m, next };
+    }
     let r = read_bits(s, p, l - 1);
     let v = r.value;
     let q = r.next;

@@ -14,7 +14,7 @@ use Rattle.getbits.specs.Bits.{bitAt, bitsAt, bitCount, position, placeA
 use Rattle.getbits.specs.declared.Place.{Place}
 use Rattle.getbits.specs.declared.Number.{Number}
 use Rattle.getbits.proofs.Chain.{picked}
-use Rattle.getbits.proofs.Fields.{bits-lt}
+use Rattle.getbits.proofs.Fields.{bits-lt, bits-add}
 use Rattle.getbits.proofs.Places.{pos-le, pos-at}
 
 -- a width of at most 32 is read, and a larger one refused
@@ -40,6 +40,18 @@ pub read-there : (s : List ℕ) (p : Place) (n : ℕ) → position s p + n ≤ b
     → readBits s p n ≡ record { value = bitsAt s (position s p) n; next = placeAt (position s p + n) (p .error) }
 unfolding readBits
 read-there s p n h = rw (le-leb (position s p + n) (bitCount s) h)
+
+-- n + 1 bits that are there are n bits and one more
+pub read-more : (s : List ℕ) (p : Place) (n : ℕ) → position s p + (n + 1) ≤ bitCount s
+    → (let b = getBit s (readBits s p n .next) in
+    (bitsAt s (position s p) (n + 1) ≡ 2 * readBits s p n .value + b .value) × (readBits s p (n + 1) .next ≡ b .next))
+unfolding getBit
+read-more s p n h =
+    let k = position s p in
+    let q = placeAt (k + n) (p .error) in
+    let at : position s q ≡ k + n = pos-at s (k + n) (p .error) (omega arith) in
+    let e : k + (n + 1) ≡ k + n + 1 = omega arith in
+    rw (read-there s p n (omega arith), read-there s p (n + 1) h, read-there s q 1 (omega (arith, at)), at, e) (omega (arith, bits-add s k n 1), refl)
 
 -- a reading, with its question answered
 pub read-cases : (P : Number → Type 0) (s : List ℕ) (p : Place) (n : ℕ)

@@ -51,18 +51,12 @@ byte-top s j (suc n) l h =
 pub byte-bits : (s : List ℕ) (j : ℕ) → getD s j 0 < 256 → bitsAt s (8 * j) 8 ≡ getD s j 0
 byte-bits s j h = byte-top s j 8 (lit≤ tt) h ∙ div-one (getD s j 0)
 
-module _ (s : List ℕ) (i : ℕ) (h : (k : ℕ) → getD s k 0 < 256) where
-  pair-bits : bitsAt s (8 * i) 16 ≡ getD s i 0 * 256 + getD s (i + 1) 0
-  pair-bits =
-      let e : 8 * i + 8 ≡ 8 * (i + 1) = omega arith in
-      bits-add s (8 * i) 8 8 ∙ rw (e, byte-bits s i (h i), byte-bits s (i + 1) (h (i + 1)))
-
-  half-bits : bitsAt s (8 * i) 32 ≡ half s i
-  half-bits =
-      let next : (k : ℕ) → 8 * i + 8 * k ≡ 8 * (i + k) = λ k. omega arith in
-      let b : (k : ℕ) → bitsAt s (8 * i) (8 * k + 8) ≡ bitsAt s (8 * i) (8 * k) * 256 + getD s (i + k) 0 =
-      λ k. bits-add s (8 * i) (8 * k) 8 ∙ ap (λ (x : ℕ). bitsAt s (8 * i) (8 * k) * 256 + x) (ap (λ (x : ℕ). bitsAt s x 8) (next k) ∙ byte-bits s (i + k) (h (i + k))) in
-      omega (arith, byte-bits s i (h i), b 1, b 2, b 3)
+half-bits : (s : List ℕ) (i : ℕ) → ((k : ℕ) → getD s k 0 < 256) → bitsAt s (8 * i) 32 ≡ half s i
+half-bits s i h =
+    let next : (k : ℕ) → 8 * i + 8 * k ≡ 8 * (i + k) = λ k. omega arith in
+    let b : (k : ℕ) → bitsAt s (8 * i) (8 * k + 8) ≡ bitsAt s (8 * i) (8 * k) * 256 + getD s (i + k) 0 =
+    λ k. bits-add s (8 * i) (8 * k) 8 ∙ ap (λ (x : ℕ). bitsAt s (8 * i) (8 * k) * 256 + x) (ap (λ (x : ℕ). bitsAt s x 8) (next k) ∙ byte-bits s (i + k) (h (i + k))) in
+    omega (arith, byte-bits s i (h i), b 1, b 2, b 3)
 
 word-bits : (s : List ℕ) (i : ℕ) → ((k : ℕ) → getD s k 0 < 256) → bitsAt s (8 * i) 64 ≡ word s i
 word-bits s i h =
@@ -75,13 +69,9 @@ window s i u n r t e =
     let a : bitsAt s (8 * i) t ≡ bitsAt s (8 * i) (u + n) * 2 ^ r + bitsAt s (8 * i + (u + n)) r = ap (bitsAt s (8 * i)) (sym e) ∙ bits-add s (8 * i) (u + n) r in
     rw (a, high (bitsAt s (8 * i) (u + n)) r (bits-lt s (8 * i + (u + n)) r), bits-add s (8 * i) u n, low (bitsAt s (8 * i) u) n (bits-lt s (8 * i + u) n))
 
--- a field of a word, and of two bytes, is the bits that stand there
-module _ (s : List ℕ) (i u n : ℕ) (b : (k : ℕ) → getD s k 0 < 256) (h : u < 8) where
-  pub word-field : n ≤ 32 → word s i / 2 ^ (64 - (u + n)) % 2 ^ n ≡ bitsAt s (8 * i + u) n
-  word-field k = ap (λ (x : ℕ). x / 2 ^ (64 - (u + n)) % 2 ^ n) (sym (word-bits s i b)) ∙ window s i u n (64 - (u + n)) 64 (omega arith)
-
-  pub pair-field : n ≤ 8 → (getD s i 0 * 256 + getD s (i + 1) 0) / 2 ^ (16 - (u + n)) % 2 ^ n ≡ bitsAt s (8 * i + u) n
-  pair-field k = ap (λ (x : ℕ). x / 2 ^ (16 - (u + n)) % 2 ^ n) (sym (pair-bits s i b)) ∙ window s i u n (16 - (u + n)) 16 (omega arith)
+-- a field of a word is the bits that stand there
+pub word-field : (s : List ℕ) (i u n : ℕ) → ((k : ℕ) → getD s k 0 < 256) → u < 8 → n ≤ 32 → word s i / 2 ^ (64 - (u + n)) % 2 ^ n ≡ bitsAt s (8 * i + u) n
+word-field s i u n b h k = ap (λ (x : ℕ). x / 2 ^ (64 - (u + n)) % 2 ^ n) (sym (word-bits s i b)) ∙ window s i u n (64 - (u + n)) 64 (omega arith)
 
 -- 1 shifted by less than the width
 pub shl-one : (n w : ℕ) → n < w → 1 * 2 ^ n % 2 ^ w ≡ 2 ^ n

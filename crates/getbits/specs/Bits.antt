@@ -51,6 +51,10 @@ readBits s p n =
     (record { value = bitsAt s (position s p) n; next = placeAt (position s p + n) (p .error) })
     (runOut s)
 
+-- n bits, at most 32, of which none is used: 0 for each past the end
+unfoldable pub lookAt : List ℕ → Place → ℕ → ℕ
+lookAt s p n = pick (leb n 32) (bitsAt s (position s p) n) 0
+
 -- get_bit: one bit; at the end, 0 and error
 unfoldable pub getBit : List ℕ → Place → Number
 getBit s p = readBits s p 1

@@ -3,13 +3,11 @@ ghost use mathlib.Core.Path.{_≡_};
 ghost use Prim.Native.Nat.{_+_, _*_, _-_, _^_, _<_, _≤_};
 ghost use lib.IntN.{pos, negsuc};
 ghost use lib.ListN.{length, drop};
-ghost use Rattle.getbits.specs.Bits.{settled, runOut, refused, readBits, getBit, getBits, signedOf, getSbits, bytePos, byteAlign, bitsIf, getFlag, flagIf};
+ghost use Rattle.getbits.specs.Bits.{settled, runOut, refused, lookAt, getBit, getBits, signedOf, getSbits, bytePos, byteAlign, bitsIf, getFlag, flagIf};
 
 mod words;
 
 use words::peek;
-use words::short_field;
-use words::wide;
 
 // The byte reached, the bits of it used (0 to 7) and the reader's error.
 pub struct Place {
@@ -108,11 +106,14 @@ pub fn refuse(s: &[u8], p: Place) -> Number
     }
 }
 
-// n bits from a place, n at most 32.
-fn read_any(s: &[u8], p: Place, n: u32) -> Number
-    requires { ⌜ n ≤ 32 ⌝ }
-    ensures { λ r. ⌜ r ≡ readBits (now (s .entry)) p n ⌝ }
+// get_bits for a width that has no sign. It is inlined in its callers, and so keeps a place out of memory; the bits come from `peek`, which is
+// not inlined while it has two callers.
+pub fn read_bits(s: &[u8], p: Place, n: u32) -> Number
+    ensures { λ r. ⌜ r ≡ getBits (now (s .entry)) p (pos n) ⌝ }
 {
+    if 32 < n {
+        return refuse(s, p);
+    }
     let q = settle(s, p);
     let byte = q.byte;
     let used = q.used;
@@ -130,33 +131,15 @@ fn read_any(s: &[u8], p: Place, n: u32) -> Number
     }
 }
 
-// get_bits for a width that has no sign. A short field inside the data is read here, without a further call.
-pub fn read_bits(s: &[u8], p: Place, n: u32) -> Number
-    ensures { λ r. ⌜ r ≡ getBits (now (s .entry)) p (pos n) ⌝ }
+// The n bits behind a place, at most 32, with 0 for each past the end. None is used.
+pub fn look(s: &[u8], p: Place, n: u32) -> u32
+    ensures { λ r. ⌜ r ≡ lookAt (now (s .entry)) p n ⌝ }
 {
-    let byte = p.byte;
-    let used = p.used;
-    if byte < s.len() {
-        if used < 8 {
-            if n <= 8 {
-                if byte + 1 < s.len() {
-                    let stop = used + n;
-                    return Number {
-                        value: short_field(wide(s[byte]) * 256 + wide(s[byte + 1]), used, n),
-                        next: Place {
-                            byte: byte + (stop / 8) as usize,
-                            used: stop % 8,
-                            error: p.error,
-                        },
-                    };
-                }
-            }
-        }
+    if n <= 32 {
+        let q = settle(s, p);
+        return peek(s, q.byte, q.used, n);
     }
-    if 32 < n {
-        return refuse(s, p);
-    }
-    read_any(s, p, n)
+    0
 }
 
 pub fn get_bits(s: &[u8], p: Place, n: i32) -> Number

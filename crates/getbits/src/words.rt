@@ -1,11 +1,11 @@
-// The bits of a field, out of two bytes or eight: a constant number of loads, and no loop.
+// The bits of a field, out of eight bytes: a constant number of loads, and no loop.
 ghost use mathlib.Core.Path.{_≡_};
 ghost use Prim.Native.Nat.{_+_, _*_, _-_, _/_, _%_, _^_, _<_, _≤_};
 ghost use lib.ListN.{length, getD};
 ghost use Rattle.getbits.specs.Bits.{bitsAt};
 ghost use Rattle.getbits.specs.Words.{half};
 
-pub fn wide(x: u8) -> u64
+fn wide(x: u8) -> u64
     ensures { λ r. ⌜ (r ≡ x) × (r < 256) ⌝ }
 {
     x as u64
@@ -32,14 +32,6 @@ fn half_near_end(s: &[u8], i: usize) -> u64
     ensures { λ r. ⌜ (r ≡ half (now (s .entry)) i) × (r < 2 ^ 32) ⌝ }
 {
     at(s, i) * 0x100_0000 + at(s, i + 1) * 0x1_0000 + at(s, i + 2) * 0x100 + at(s, i + 3)
-}
-
-// The n bits of the 16 bits of w behind its first `used` ones.
-pub fn short_field(w: u64, used: u32, n: u32) -> u32
-    requires { ⌜ (used < 8) × (n ≤ 8) ⌝ }
-    ensures { λ r. ⌜ r ≡ w / 2 ^ (16 - (used + n)) % 2 ^ n ⌝ }
-{
-    ((w >> (16 - (used + n))) % (1u64 << n)) as u32
 }
 
 // The n bits of the 64 bits of w behind its first `used` ones.
