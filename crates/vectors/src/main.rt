@@ -282,15 +282,14 @@ fn replay_segments(
     answer as i64
 }
 
-// An operation's value, or a parse function's answer; its record goes into out.
-fn replay_kind(
+// The value of a reading.
+fn replay_reading(
     kind: u32,
     s: &[u8],
     byte: &mut usize,
     used: &mut u32,
     error: &mut u32,
     args: &[u32],
-    out: &mut [i64],
 ) -> i64 {
     match kind {
         0 => mubanlig_get_bit(s, &mut *byte, &mut *used, &mut *error) as i64,
@@ -329,12 +328,42 @@ fn replay_kind(
             mubanlig_bytealign(s, &mut *byte, &mut *used, &mut *error);
             0
         }
+        _ => 0,
+    }
+}
+
+// The answer of a parse function; its record goes into out.
+fn replay_record(
+    kind: u32,
+    s: &[u8],
+    byte: &mut usize,
+    used: &mut u32,
+    error: &mut u32,
+    args: &[u32],
+    out: &mut [i64],
+) -> i64 {
+    match kind {
         11 => replay_layout(s, &mut *byte, &mut *used, &mut *error, args, &mut *out),
         12 => replay_header(s, &mut *byte, &mut *used, &mut *error, args, &mut *out),
         13 => replay_frame(s, &mut *byte, &mut *used, &mut *error, args, &mut *out),
         14 => replay_segments(s, &mut *byte, &mut *used, &mut *error, args, &mut *out),
         _ => 0,
     }
+}
+
+fn replay_kind(
+    kind: u32,
+    s: &[u8],
+    byte: &mut usize,
+    used: &mut u32,
+    error: &mut u32,
+    args: &[u32],
+    out: &mut [i64],
+) -> i64 {
+    if kind < 11 {
+        return replay_reading(kind, s, byte, used, error, args);
+    }
+    replay_record(kind, s, byte, used, error, args, out)
 }
 
 // No field can have both a number from 2^31 up and one below 0, so one of the two is meant.
