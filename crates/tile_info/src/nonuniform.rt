@@ -32,7 +32,12 @@ fn read_size(s: &[u8], p: Place, rest: FrameSb, limit: FrameSb) -> TileSize
     let next = g.next;
     TileSize {
         size: frame_sb(g.value + 1),
-        next,
+        // Field by field: a place copied whole is loaded before its parts have left the store buffer.
+        next: Place {
+            byte: next.byte,
+            used: next.used,
+            error: next.error,
+        },
     }
 }
 
