@@ -2,13 +2,13 @@
 use mathlib.Core.Path.{_≡_, refl, sym, ap, _∙_, subst}
 use mathlib.Core.Bool.{Bool, true, false}
 use mathlib.Core.List.{List}
-use Prim.Native.Nat.{ℕ, zero, suc, _+_, _-_, _*_, _^_, _≤_, _<_, min}
+use Prim.Native.Nat.{ℕ, zero, suc, _+_, _-_, _*_, _^_, _≤_, min}
 use native.Mathlib.Nat.{le-refl, le-trans}
 use native.Mathlib.Omega.{arith}
 use lib.Dec.{T, ltb, leb, eqb}
 use lib.IntN.{ℤ, pos, negsuc, natAbs, _+ℤ_, _-ℤ_}
 use Rattle.getbits.specs.Chain.{pick, then}
-use Rattle.getbits.specs.Bits.{bitAt, bitsAt, bitCount, position, placeAt, settled, refused, readBits, getBit, getBits, signedOf, getSbits, getFlag, flagIf, bitsIf}
+use Rattle.getbits.specs.Bits.{bitsAt, position, placeAt, settled, refused, readBits, getBit, getBits, signedOf, getSbits, getFlag, flagIf, bitsIf}
 use Rattle.getbits.specs.declared.Place.{Place}
 use Rattle.getbits.specs.declared.Number.{Number}
 use Rattle.getbits.specs.declared.Signed.{Signed}

@@ -1,20 +1,21 @@
 -- Stores at the front of a buffer, and the numbers of the tiles row by row. Assumes nothing.
 use mathlib.Core.Logic.{⊎-elim}
 use mathlib.Core.Path.{_≡_, refl, sym, ap, _∙_}
-use mathlib.Core.List.{List, [], _∷_, _++_}
+use mathlib.Core.List.{List, _++_}
 use Prim.Native.Nat.{ℕ, zero, suc, _+_, _-_, _*_, _/_, _%_, _≤_, _<_}
 use native.Mathlib.Nat.{div-add-mod', mul-comm, add-comm, add-mul, mul-le-mul-right, add-mul-div-right, div-eq-of-lt}
 use native.Mathlib.Numerals.{add-one}
 use native.Mathlib.Omega.{arith}
-use lib.ListN.{length, getD, take, drop, length-append, List·getD-append}
+use lib.ListN.{length, getD, take, drop, length-append, length-drop, List·getD-append}
 use lib.Seq.{sets, sets-eq, take-at, drop-append-add, drop-drop, getD-append-add, getD-drop}
 use Rattle.getbits.proofs.Places.{lt-or-le}
 use Rattle.tile_layout.specs.declared.TileInfo.{TileInfo}
+use Rattle.tile_layout.specs.Layout.{over}
 use Rattle.rectangles.specs.Rectangles.{rectangle}
-use Rattle.rectangles.specs.Rows.{rowByRow, inFront}
+use Rattle.rectangles.specs.Rows.{rowByRow}
 
 -- more numbers, stored behind those in front
-pub put-front : (xs vs before out : List ℕ) (at : ℕ) → out ≡ inFront xs before → length xs ≡ at → at + length vs ≤ length out → sets out at vs ≡ inFront (xs ++ vs) before
+pub put-front : (xs vs before out : List ℕ) (at : ℕ) → out ≡ over xs before → length xs ≡ at → at + length vs ≤ length out → sets out at vs ≡ over (xs ++ vs) before
 put-front xs vs before out at e f h =
     let ys = drop (length xs) before in
     let front : take at out ≡ xs = ap (take at) e ∙ take-at xs ys at f in
@@ -52,16 +53,20 @@ module _ (t : TileInfo) (code : ℕ) where
       (lt-or-le m n)
 
 -- what stands in front, and behind it
-pub front-at : (xs before : List ℕ) (i : ℕ) → i < length xs → getD (inFront xs before) i 0 ≡ getD xs i 0
+pub front-at : (xs before : List ℕ) (i : ℕ) → i < length xs → getD (over xs before) i 0 ≡ getD xs i 0
 front-at xs before i h = List·getD-append xs (drop (length xs) before) 0 i h
 
-pub front-behind : (xs before : List ℕ) (i : ℕ) → length xs ≤ i → getD (inFront xs before) i 0 ≡ getD before i 0
+pub front-behind : (xs before : List ℕ) (i : ℕ) → length xs ≤ i → getD (over xs before) i 0 ≡ getD before i 0
 front-behind xs before i h =
     let e : length xs + (i - length xs) ≡ i = omega arith in
-    ap (λ (x : ℕ). getD (inFront xs before) x 0) (sym e)
+    ap (λ (x : ℕ). getD (over xs before) x 0) (sym e)
     ∙ getD-append-add xs (drop (length xs) before) (i - length xs) 0
     ∙ getD-drop (length xs) before (i - length xs) 0
     ∙ ap (λ (x : ℕ). getD before x 0) e
+
+-- the buffer keeps its length
+pub front-long : (xs before : List ℕ) → length xs ≤ length before → length (over xs before) ≡ length before
+front-long xs before h = length-append xs (drop (length xs) before) ∙ omega (arith, length-drop (length xs) before)
 
 -- the tile of a column and a row, counted row by row
 module _ (col row cols : ℕ) (h : col < cols) where

@@ -1,15 +1,16 @@
 -- Row by row each tile has its place. Assumes nothing.
-use mathlib.Core.Path.{_≡_, refl, sym, ap, _∙_}
+use mathlib.Core.Path.{_≡_, sym, ap, _∙_}
 use mathlib.Core.List.{List}
-use Prim.Native.Nat.{ℕ, _+_, _*_, _/_, _%_, _<_, _≤_}
+use Prim.Native.Nat.{ℕ, _+_, _*_, _/_, _%_, _≤_}
 use native.Mathlib.Omega.{arith}
 use lib.ListN.{length, getD}
 use Rattle.tile_layout.specs.declared.TileInfo.{TileInfo}
-use Rattle.rectangles.specs.Rectangles.{rectangle, numbers, Written}
-use Rattle.rectangles.specs.Rows.{rowByRow, inFront}
-use Rattle.rectangles.proofs.Fronts.{rows-length, rows-at, front-at, front-behind, tile-row, tile-col, tile-lt}
+use Rattle.tile_layout.specs.Layout.{over}
+use Rattle.rectangles.specs.Rectangles.{rectangleNumbers, rectangle, Filled}
+use Rattle.rectangles.specs.Rows.{rowByRow}
+use Rattle.rectangles.proofs.Fronts.{rows-length, rows-at, front-at, front-behind, front-long, tile-row, tile-col, tile-lt}
 
-pub in-order : (t : TileInfo) (code : ℕ) (before after : List ℕ) → after ≡ inFront (rowByRow t code (t .cols * t .rows)) before → Written t code before after
+pub in-order : (t : TileInfo) (code : ℕ) (before after : List ℕ) → after ≡ over (rowByRow t code (t .cols * t .rows)) before → Filled t code before after
 in-order t code before after e =
     let n = t .cols * t .rows in
     let size = rows-length t code n in
@@ -30,3 +31,9 @@ in-order t code before after e =
           ∙ ap (λ (x : ℕ). getD (rectangle t code col x) j 0) (tile-row col row (t .cols) h);
       behind = λ j h. ap (λ (x : List ℕ). getD x j 0) e ∙ front-behind (rowByRow t code n) before j (omega (arith, h, size));
     }
+
+pub same-long : (t : TileInfo) (code : ℕ) (before after : List ℕ) → rectangleNumbers t ≤ length before
+    → after ≡ over (rowByRow t code (t .cols * t .rows)) before → length after ≡ length before
+same-long t code before after h e =
+    let n = t .cols * t .rows in
+    ap length e ∙ front-long (rowByRow t code n) before (omega (arith, h, rows-length t code n))

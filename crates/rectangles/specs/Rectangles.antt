@@ -29,12 +29,12 @@ hasRectangles t code =
     && (rising (t .«col_start_sb») (t .cols) && rising (t .«row_start_sb») (t .rows)))
 
 -- how many numbers all tiles take, four a tile
-abbrev pub numbers : TileInfo → ℕ
-numbers t = 4 * (t .cols * t .rows)
+abbrev pub rectangleNumbers : TileInfo → ℕ
+rectangleNumbers t = 4 * (t .cols * t .rows)
 
 -- is the layout as described? No: 4. Has the buffer four numbers a tile? No: 5
 unfoldable pub rectanglesAnswer : TileInfo → ℕ → ℕ → Answer
-rectanglesAnswer t code room = pick (hasRectangles t code) (pick (leb (numbers t) room) Accepted ShortBuffer) WrongArguments
+rectanglesAnswer t code room = pick (hasRectangles t code) (pick (leb (rectangleNumbers t) room) Accepted ShortBuffer) WrongArguments
 
 -- where tile i along one direction begins and how far it reaches, in samples: from its start to the next start
 abbrev pub begins : List ℕ → ℕ → ℕ → ℕ
@@ -53,19 +53,23 @@ rectangle t code col row =
     ∷ []
 
 -- Accepted: the program's own order, and the buffer in it.
-pub record Written (t : TileInfo) (code : ℕ) (before after : List ℕ) : Type 0 where
+pub record Filled (t : TileInfo) (code : ℕ) (before after : List ℕ) : Type 0 where
   -- the order: which place among the tiles the tile of a column and a row has
   pub place : ℕ → ℕ → ℕ
   -- each tile has one place, below the number of tiles, and no two have the same
   pub within : (col row : ℕ) → col < t .cols → row < t .rows → place col row < t .cols * t .rows
-  pub once : (col row col' row' : ℕ) → col < t .cols → row < t .rows → col' < t .cols → row' < t .rows → place col row ≡ place col' row' → (col ≡ col') × (row ≡ row')
+  pub once : (col row col' row' : ℕ) → col < t .cols → row < t .rows → col' < t .cols → row' < t .rows
+      → place col row ≡ place col' row' → (col ≡ col') × (row ≡ row')
   -- at its place stand its left, top, width and height
-  pub stands : (col row k : ℕ) → col < t .cols → row < t .rows → k < 4 → getD after (4 * place col row + k) 0 ≡ getD (rectangle t code col row) k 0
+  pub stands : (col row k : ℕ) → col < t .cols → row < t .rows → k < 4
+      → getD after (4 * place col row + k) 0 ≡ getD (rectangle t code col row) k 0
   -- numbers behind the last stay
-  pub behind : (k : ℕ) → numbers t ≤ k → getD after k 0 ≡ getD before k 0
+  pub behind : (k : ℕ) → rectangleNumbers t ≤ k → getD after k 0 ≡ getD before k 0
 
 -- what a call does to the buffer
 pub record Outcome (t : TileInfo) (code : ℕ) (z : Answer) (before after : List ℕ) : Type 0 where
   -- after 4 or 5 it is unchanged
   pub unchanged : isRefusal z ≡ true → after ≡ before
-  pub written : isRefusal z ≡ false → Written t code before after
+  pub filled : isRefusal z ≡ false → Filled t code before after
+  -- it keeps its length
+  pub long : length after ≡ length before

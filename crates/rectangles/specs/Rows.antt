@@ -1,7 +1,6 @@
 -- The order that the program chose: row by row. No public contract cites it.
 use mathlib.Core.List.{List, [], _++_}
 use Prim.Native.Nat.{ℕ, zero, suc, _/_, _%_}
-use lib.ListN.{length, drop}
 use Rattle.tile_layout.specs.declared.TileInfo.{TileInfo}
 use Rattle.rectangles.specs.Rectangles.{rectangle}
 
@@ -9,7 +8,3 @@ use Rattle.rectangles.specs.Rectangles.{rectangle}
 unfoldable pub rowByRow : TileInfo → ℕ → ℕ → List ℕ
 rowByRow t code zero = []
 rowByRow t code (suc n) = rowByRow t code n ++ rectangle t code (n % t .cols) (n / t .cols)
-
--- the buffer with them at its front
-abbrev pub inFront : List ℕ → List ℕ → List ℕ
-inFront xs before = xs ++ drop (length xs) before

@@ -2,14 +2,16 @@
 ghost use mathlib.Core.Path.{_≡_};
 ghost use mathlib.Core.Bool.{true};
 ghost use mathlib.Core.List.{[], _∷_};
-ghost use Prim.Native.Nat.{_+_, _*_, _-_, _/_, _%_, _^_, _<_, _≤_};
+ghost use Prim.Native.Nat.{_+_, _*_, _-_, _/_, _%_, _<_, _≤_};
 ghost use lib.ListN.{length, getD};
 ghost use lib.Seq.{sets};
 ghost use Rattle.tile_layout.specs.Limits.{size};
-ghost use Rattle.rectangles.specs.Rectangles.{rising, hasRectangles, numbers, rectanglesAnswer, begins, reaches, rectangle, Outcome};
-ghost use Rattle.rectangles.specs.Rows.{rowByRow, inFront};
+ghost use Rattle.tile_layout.specs.Layout.{over};
+ghost use Rattle.rectangles.specs.Rectangles.{rising, hasRectangles, rectangleNumbers, rectanglesAnswer, rectangle, Outcome};
+ghost use Rattle.rectangles.specs.Rows.{rowByRow};
 use answers::Answer;
 use tile_layout::TileInfo;
+use tile_layout::start_at;
 
 struct Rectangle {
     left: u32,
@@ -24,22 +26,15 @@ fn wide(x: u16) -> u32
     x as u32
 }
 
-// The start at i, and 0 past the end.
-fn at(starts: &[u16], i: usize) -> u32
-    ensures { λ r. ⌜ (r ≡ getD (now (starts .entry)) i 0) × (r < 65536) ⌝ }
-{
-    if i < starts.len() { wide(starts[i]) } else { 0 }
-}
-
 // The first n starts and the closing one never fall, and are at most 1,024.
 fn never_falls(starts: &[u16], n: u8) -> bool
     ensures { λ r. ⌜ r ≡ rising (now (starts .entry)) n ⌝ }
 {
-    let mut good = at(starts, 0) <= 1024;
+    let mut good = start_at(starts, 0) <= 1024;
     let mut i: u8 = 0;
     while i < n {
-        let start = at(starts, i as usize);
-        let next = at(starts, i as usize + 1);
+        let start = start_at(starts, i as usize);
+        let next = start_at(starts, i as usize + 1);
         good = good & ((start <= next) & (next <= 1024));
         i += 1;
     }
@@ -75,7 +70,7 @@ fn begin(starts: &[u16], side: u32, i: usize) -> u32
     requires { ⌜ (getD (now starts) i 0 ≤ 1024) × (side ≤ 256) ⌝ }
     ensures { λ r. ⌜ r ≡ getD (now (starts .entry)) i 0 * side ⌝ }
 {
-    at(starts, i) * side
+    wide(start_at(starts, i)) * side
 }
 
 // How far it reaches.
@@ -83,7 +78,7 @@ fn reach(starts: &[u16], side: u32, i: usize) -> u32
     requires { ⌜ (getD (now starts) i 0 ≤ getD (now starts) (i + 1) 0) × (getD (now starts) (i + 1) 0 ≤ 1024) × (side ≤ 256) × (i < 65536) ⌝ }
     ensures { λ r. ⌜ r ≡ (getD (now (starts .entry)) (i + 1) 0 - getD (now (starts .entry)) i 0) * side ⌝ }
 {
-    (at(starts, i + 1) - at(starts, i)) * side
+    (wide(start_at(starts, i + 1)) - wide(start_at(starts, i))) * side
 }
 
 // The rectangle of tile k, counted row by row.
@@ -116,8 +111,8 @@ fn put(out: &mut [u32], at: usize, r: Rectangle)
 }
 
 fn write_tiles(t: TileInfo, sb128: u8, out: &mut [u32])
-    requires { ⌜ (hasRectangles t «sb128» ≡ true) × (numbers t ≤ length (now out)) ⌝ }
-    ensures { λ _. ⌜ now (out .exit) ≡ inFront (rowByRow t «sb128» (t .cols * t .rows)) (now (out .entry)) ⌝ }
+    requires { ⌜ (hasRectangles t «sb128» ≡ true) × (rectangleNumbers t ≤ length (now out)) ⌝ }
+    ensures { λ _. ⌜ now (out .exit) ≡ over (rowByRow t «sb128» (t .cols * t .rows)) (now (out .entry)) ⌝ }
 {
     let tiles = t.cols as usize * t.rows as usize;
     let mut k: usize = 0;

@@ -1,6 +1,5 @@
 // The block tools of a sequence header: partition, segmentation, intra.
 ghost use mathlib.Core.Path.{_≡_};
-ghost use Prim.Native.Nat.{_≤_};
 ghost use Rattle.seq_blocks.specs.Blocks.{sbCode, aspectRatioLog2, readPartition, segInfoIf, readSegmentation, filterIndex, readIntra, readBlocks};
 use getbits::Place;
 use getbits::flag_if;

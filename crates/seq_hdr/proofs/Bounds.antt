@@ -1,9 +1,9 @@
 -- The layout of a header is always read for arguments in the domain. Assumes nothing.
-use mathlib.Core.Path.{_≡_, refl, sym, subst}
+use mathlib.Core.Path.{_≡_, refl, subst}
 use mathlib.Core.Bool.{Bool, true, false, not, _&&_}
 use mathlib.Core.List.{List}
 use mathlib.Core.Logic.{inl}
-use Prim.Native.Nat.{ℕ, zero, suc, _+_, _%_, _^_, _≤_, _<_}
+use Prim.Native.Nat.{ℕ, _+_, _^_, _≤_, _<_}
 use native.Mathlib.Nat.{mod-le, lt-of-le-of-lt, lt-of-lt-of-le}
 use native.Mathlib.Omega.{arith}
 use lib.Dec.{T, ltb, leb}
@@ -16,7 +16,7 @@ use Rattle.getbits.specs.Bits.{getFlag, flagIf, getBits}
 use Rattle.getbits.specs.declared.Place.{Place}
 use Rattle.tile_layout.specs.Limits.{unsigned, inDomain}
 use Rattle.tile_layout.proofs.Domain.{in-domain}
-use Rattle.seq_fields.specs.Fields.{getSmall, smallIf, bitOf}
+use Rattle.seq_fields.specs.Fields.{getSmall, smallIf}
 use Rattle.seq_fields.proofs.Bounds.{bits-below}
 use Rattle.seq_picture.specs.declared.FrameSize.{FrameSize}
 use Rattle.seq_picture.specs.declared.Level.{Level}
@@ -24,9 +24,6 @@ use Rattle.seq_picture.specs.Level.{readLevel, readFormat}
 use Rattle.seq_picture.specs.Picture.{readLength, readLayers, readFrameSize, readPicture}
 use Rattle.seq_blocks.specs.Blocks.{sbCode, readPartition, readBlocks}
 use Rattle.seq_inter.specs.Refs.{readMotion, readRefFrames}
-use Rattle.seq_inter.specs.Inter.{readInter}
-use Rattle.seq_residual.specs.Residual.{readResidual}
-use Rattle.seq_residual.specs.Filters.{readFilters}
 use Rattle.seq_hdr.specs.declared.SeqRead.{SeqRead}
 use Rattle.seq_hdr.specs.Tiling.{tilingArgs}
 use Rattle.seq_hdr.specs.Header.{readStart, unknownProfile, isMono, refused, readHead}

@@ -12,7 +12,6 @@ use Rattle.getbits.specs.Bits.{getFlag, flagIf}
 use Rattle.getbits.specs.declared.Place.{Place}
 use Rattle.getbits.proofs.Chain.{picked, taken, left, through}
 use Rattle.tile_layout.specs.declared.TileInfo.{TileInfo}
-use Rattle.tile_layout.specs.declared.TileRead.{TileRead}
 use Rattle.tile_layout.specs.Limits.{noTileInfo}
 use Rattle.tile_layout.proofs.Demand3.{demand-3}
 use Rattle.seq_record.specs.declared.SequenceHeader.{SequenceHeader}

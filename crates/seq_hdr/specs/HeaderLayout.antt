@@ -3,7 +3,6 @@ use mathlib.Core.Path.{_≡_}
 use mathlib.Core.Bool.{true, false}
 use mathlib.Core.List.{List}
 use Prim.Native.Nat.{ℕ}
-use lib.IntN.{pos}
 use Rattle.answers.specs.Numbers.{numberOf, isRefusal}
 use Rattle.getbits.specs.Bits.{getFlag}
 use Rattle.getbits.specs.declared.Place.{Place}

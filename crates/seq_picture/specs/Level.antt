@@ -1,7 +1,7 @@
 -- Level, layout and bit depth.
 use Prim.Native.Nat.{ℕ, _-_, _%_}
 use mathlib.Core.List.{List}
-use mathlib.Core.Bool.{Bool, not, _&&_}
+use mathlib.Core.Bool.{not, _&&_}
 use lib.Dec.{ltb, leb, eqb}
 use Rattle.getbits.specs.Bits.{getFlag}
 use Rattle.getbits.specs.Chain.{pick, then}

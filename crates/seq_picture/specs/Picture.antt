@@ -1,7 +1,7 @@
 -- Layers, frame size and crop window, and the layers' dependencies.
 use Prim.Native.Nat.{ℕ, _+_, _-_, _^_}
 use mathlib.Core.List.{List}
-use mathlib.Core.Bool.{Bool, not, _&&_, _||_}
+use mathlib.Core.Bool.{Bool, not, _||_}
 use lib.Dec.{ltb}
 use lib.IntN.{pos}
 use lib.ListN.{set, replicate}

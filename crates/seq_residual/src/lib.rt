@@ -1,6 +1,5 @@
 // The residual tools of a sequence header, and its loop filters.
 ghost use mathlib.Core.Path.{_≡_};
-ghost use Prim.Native.Nat.{_≤_, _<_};
 ghost use Rattle.getbits.specs.Chain.{pick};
 ghost use Rattle.seq_residual.specs.Residual.{readTransform, readEntropy, signedIf, wrappedIf, readQuant, readResidual};
 ghost use Rattle.seq_residual.specs.Filters.{wienerMask, readRestoration, onSkipTx, readFilters};

@@ -29,25 +29,27 @@ use Rattle.tile_layout.proofs.Area.{min-cols, max-cols, max-rows, cover
 
 module _ (s : List ℕ) (p : Place) (old : TileInfo) (a : TileArgs) (d : InDomain a) where
   -- what the two rules have in common
-  accepted : (t : TileInfo) (most : ℕ) → Cut (t .cols) (sbw a) (widthLimit a) (λ k. getD (t .«col_start_sb») k 0) → Cut (t .rows) (sbh a) most (λ k. getD (t .«row_start_sb») k 0)
-      → (NonUniform s p → (i j : ℕ) → i < t .cols → j < t .rows → colSize t i * rowSize t j ≤ areaLimit a)
-      → (Uniform s p → a .«frame_code» ≡ a .«seq_code» → Balanced (t .cols) (λ k. getD (t .«col_start_sb») k 0))
-      → (Uniform s p → a .«frame_code» ≡ a .«seq_code» → Balanced (t .rows) (λ k. getD (t .«row_start_sb») k 0))
+  accepted : (t : TileInfo) (most : ℕ)
+      → Cut (t .cols) (sbw a) (widthLimit a) (λ k. getD (t .«col_start_sb») k 0)
+      → Cut (t .rows) (sbh a) most (λ k. getD (t .«row_start_sb») k 0)
+      → (getBit s p .value ≡ 0 → (i j : ℕ) → i < t .cols → j < t .rows → colSize t i * rowSize t j ≤ areaLimit a)
+      → (getBit s p .value ≡ 1 → a .«frame_code» ≡ a .«seq_code» → Balanced (t .cols) (λ k. getD (t .«col_start_sb») k 0))
+      → (getBit s p .value ≡ 1 → a .«frame_code» ≡ a .«seq_code» → Balanced (t .rows) (λ k. getD (t .«row_start_sb») k 0))
       → AcceptedLayout s p a t
   accepted t most c r area cols rows =
       record {
-        some-cols = c .some;
-        most-cols = c .few;
-        some-rows = r .some;
-        most-rows = r .few;
-        col-not-empty = c .filled;
-        row-not-empty = r .filled;
-        width-limit = c .narrow;
+        some-cols = omega (arith, c .some);
+        most-cols = omega (arith, c .few);
+        some-rows = omega (arith, r .some);
+        most-rows = omega (arith, r .few);
+        col-not-empty = λ i h. omega (arith, c .filled i h);
+        row-not-empty = λ j h. omega (arith, r .filled j h);
+        width-limit = λ i h. omega (arith, c .narrow i h);
         cols-add-up = c .adds;
         rows-add-up = r .adds;
-        area-limit = area;
-        cols-even = cols;
-        rows-even = rows;
+        area-limit = λ flag i j h k. omega (arith, area (omega (arith, flag)) i j h k);
+        cols-even = λ flag one i k h l. omega (arith, cols (omega (arith, flag)) (omega (arith, one)) i k h l);
+        rows-even = λ flag one j k h l. omega (arith, rows (omega (arith, flag)) (omega (arith, one)) j k h l);
       }
 
   uniform-accepted : Uniform s p → (log log-rows : ℕ) → minLog2Cols a ≤ log → log ≤ 6 → log-rows ≤ 6 → AcceptedLayout s p a (uniformInfo a old log log-rows)

@@ -1,5 +1,6 @@
 // The records of a tile layout.
 ghost use mathlib.Core.Path.{_≡_};
+ghost use lib.ListN.{getD};
 ghost use Rattle.tile_layout.specs.Limits.{unsigned, noTileInfo};
 use answers::Answer;
 use getbits::Place;
@@ -45,6 +46,13 @@ pub fn not_below_0(x: i32) -> u32
         return 0;
     }
     x as u32
+}
+
+// The start at i, and 0 past the end.
+pub fn start_at(starts: &[u16], i: usize) -> u16
+    ensures { λ r. ⌜ r ≡ getD (now (starts .entry)) i 0 ⌝ }
+{
+    if i < starts.len() { starts[i] } else { 0 }
 }
 
 pub fn no_tile_info() -> TileInfo

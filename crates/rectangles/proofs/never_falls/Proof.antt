@@ -17,12 +17,12 @@ abbrev μ-loop : tie.MeasureT-loop
 
 loop-holds : tie.Need-loop-holds Inv-loop μ-loop
 unfolding rising
-loop-holds c = (search needs, ap (λ (x : ℕ). leb x 1024) (c .at .ensures .0))
+loop-holds c = (search needs, ap (λ (x : ℕ). leb x 1024) (c .start-at .ensures))
 
 loop-again : tie.Need-loop-again Inv-loop μ-loop
 loop-again c =
     let l = c .before .before .before in
-    (search needs, rising-more (l .before .before .before .args .starts .now) (l .loop .i) (l .loop .inv .1) (c .before .at2 .ensures .0) (c .at3 .ensures .0))
+    (search needs, rising-more (l .before .before .before .args .starts .now) (l .loop .i) (l .loop .inv .1) (c .before .start-at2 .ensures) (c .start-at3 .ensures))
 
 returns : tie.Need-returns Inv-loop μ-loop
 returns c =

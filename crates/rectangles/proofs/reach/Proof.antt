@@ -9,11 +9,11 @@ use Rattle.rectangles.proofs.reach.Tie as tie
 
 mul-result : tie.Need-mul-result
 mul-result c =
-    let a = c .before .before .before in
-    record { fits = samples-lt (c .before .at .result - c .at2 .result) (a .args .side) (omega arith) (a .pre .2) }
+    let a = c .before .before .before .before .before in
+    record { fits = samples-lt (c .before .before .wide .result - c .wide2 .result) (a .args .side) (omega arith) (a .pre .2) }
 
 returns : tie.Need-returns
-returns c = ap (λ (x : ℕ). x * c .before .before .before .args .side) (omega arith)
+returns c = ap (λ (x : ℕ). x * c .before .before .before .before .before .args .side) (omega arith)
 
 pub reach-spec : {M : Type 1} → statement M
-reach-spec = tie.close (tie.spec (λ c. search needs) (λ c κs. search needs) (λ c κs. search needs) (λ c. search needs) mul-result returns)
+reach-spec = tie.close (tie.spec (λ c. search needs) (λ c κs. search needs) (λ c κs. search needs) (λ c κs. search needs) (λ c κs. search needs) (λ c. search needs) mul-result returns)

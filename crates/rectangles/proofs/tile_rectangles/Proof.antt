@@ -7,9 +7,9 @@ use borrow.Author.Tests.{le-leb, lt-leb, not-true, not-false}
 use borrow.Author.Needs.{needs}
 use lib.ListN.{length}
 use lib.Dec.{T}
-use Rattle.rectangles.proofs.Order.{in-order}
+use Rattle.rectangles.proofs.Order.{in-order, same-long}
 use Rattle.rectangles.proofs.Rising.{tiles-le}
-use Rattle.rectangles.specs.Rectangles.{hasRectangles, numbers, rectanglesAnswer}
+use Rattle.rectangles.specs.Rectangles.{hasRectangles, rectangleNumbers, rectanglesAnswer}
 use Rattle.getbits.proofs.Chain.{taken, left}
 use Rattle.rectangles.proofs.tile_rectangles.Statement.{statement}
 use Rattle.rectangles.proofs.tile_rectangles.Tie as tie
@@ -25,7 +25,7 @@ returns : tie.Need-returns
 unfolding rectanglesAnswer
 returns c =
     let k = c .before in
-    (sym (left _ _ _ (sym (k .has-rectangles .ensures) ∙ not-true _ (c .if1 .taken))), record { unchanged = λ _. refl; written = λ e. absurd (subst T e tt) })
+    (sym (left _ _ _ (sym (k .has-rectangles .ensures) ∙ not-true _ (c .if1 .taken))), record { unchanged = λ _. refl; filled = λ e. absurd (subst T e tt); long = refl })
 
 mul-if2 : tie.Need-mul-if2
 mul-if2 c = omega (arith, most (c .before .before))
@@ -38,8 +38,8 @@ unfolding rectanglesAnswer
 returns-2 c =
     let k = c .before .before .before in
     let a = c .before .before .before .before .before .before .args in (
-      sym (taken _ _ _ (good k) ∙ left _ _ _ (lt-leb (numbers (a .t)) (length (a .out .now)) (c .if2 .taken))),
-      record { unchanged = λ _. refl; written = λ e. absurd (subst T e tt) },
+      sym (taken _ _ _ (good k) ∙ left _ _ _ (lt-leb (rectangleNumbers (a .t)) (length (a .out .now)) (c .if2 .taken))),
+      record { unchanged = λ _. refl; filled = λ e. absurd (subst T e tt); long = refl },
     )
 
 write-tiles-requires : tie.Need-write-tiles-requires
@@ -53,8 +53,12 @@ returns-3 c =
     let k = c .before .before .before .before .before .before .before in
     let a = c .before .before .before .before .before .before .before .before .before .before .args in
     let w = c .before .before .write-tiles in (
-      sym (taken _ _ _ (good k) ∙ taken _ _ _ (le-leb (numbers (a .t)) (length (a .out .now)) (c .before .before .before .before .if2 .left))),
-      record { unchanged = λ e. absurd (subst T (sym e) tt); written = λ _. in-order (a .t) (a .sb128) (a .out .now) (w .last .1 .1 .0) (w .ensures) },
+      sym (taken _ _ _ (good k) ∙ taken _ _ _ (le-leb (rectangleNumbers (a .t)) (length (a .out .now)) (c .before .before .before .before .if2 .left))),
+      record {
+        unchanged = λ e. absurd (subst T (sym e) tt);
+        filled = λ _. in-order (a .t) (a .sb128) (a .out .now) (w .last .1 .1 .0) (w .ensures);
+        long = same-long (a .t) (a .sb128) (a .out .now) (w .last .1 .1 .0) (c .before .before .before .before .if2 .left) (w .ensures);
+      },
     )
 
 pub tile-rectangles-spec : {M : Type 1} → statement M

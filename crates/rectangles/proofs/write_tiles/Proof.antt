@@ -6,15 +6,16 @@ use native.Mathlib.Omega.{arith}
 use borrow.Author.Needs.{needs}
 use lib.Seq.{length-sets}
 use lib.ListN.{length}
+use Rattle.tile_layout.specs.Layout.{over}
 use Rattle.rectangles.proofs.Rising.{tiles-le}
 use Rattle.rectangles.proofs.Fronts.{put-front, rows-length, rows-more}
-use Rattle.rectangles.specs.Rows.{rowByRow, inFront}
+use Rattle.rectangles.specs.Rows.{rowByRow}
 use Rattle.rectangles.proofs.write_tiles.Statement.{statement}
 use Rattle.rectangles.proofs.write_tiles.Tie as tie
 
 abbrev Inv-loop : tie.InvT-loop
 Inv-loop t sb128 out₀ tiles k₀ out k =
-    (k ≤ tiles) × (out ≡ inFront (rowByRow t sb128 k) out₀) × (length out ≡ length out₀)
+    (k ≤ tiles) × (out ≡ over (rowByRow t sb128 k) out₀) × (length out ≡ length out₀)
 
 abbrev μ-loop : tie.MeasureT-loop
 μ-loop t sb128 out₀ tiles k₀ out k = tiles - k
@@ -64,7 +65,7 @@ loop-again c =
       omega arith,
       p .ensures
           ∙ put-front xs vs (a .args .out .now) (l .loop .out) (4 * l .loop .k) (l .loop .inv .1) (rows-length (a .args .t) (a .args .sb128) (l .loop .k)) (room l (c .before .before .before .before .before .loop-test .taken))
-          ∙ ap (λ (x : List ℕ). inFront x (a .args .out .now)) (ap (λ (x : List ℕ). xs ++ x) (r .ensures) ∙ rows-more (a .args .t) (a .args .sb128) (l .loop .k)),
+          ∙ ap (λ (x : List ℕ). over x (a .args .out .now)) (ap (λ (x : List ℕ). xs ++ x) (r .ensures) ∙ rows-more (a .args .t) (a .args .sb128) (l .loop .k)),
       ap length (p .ensures) ∙ length-sets (l .loop .out) (4 * l .loop .k) vs ∙ l .loop .inv .2,
     )
 
@@ -76,7 +77,7 @@ returns c =
     let l = c .before in
     let a = l .before .before .before .before in
     let e : l .loop .k ≡ a .args .t .cols * a .args .t .rows = omega arith in
-    l .loop .inv .1 ∙ ap (λ (x : ℕ). inFront (rowByRow (a .args .t) (a .args .sb128) x) (a .args .out .now)) e
+    l .loop .inv .1 ∙ ap (λ (x : ℕ). over (rowByRow (a .args .t) (a .args .sb128) x) (a .args .out .now)) e
 
 pub write-tiles-spec : {M : Type 1} → statement M
 write-tiles-spec =

@@ -1,7 +1,6 @@
 -- `seq_hdr::refuse` meets its contract. Assumes nothing.
 use mathlib.Core.Path.{sym}
 use borrow.Author.Needs.{needs}
-use Rattle.getbits.proofs.Chain.{}
 use Rattle.seq_hdr.specs.Header.{refused}
 use Rattle.seq_hdr.proofs.refuse.Statement.{statement}
 use Rattle.seq_hdr.proofs.refuse.Tie as tie
