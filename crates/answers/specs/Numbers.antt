@@ -2,7 +2,8 @@
 use Prim.Native.Nat.{ℕ}
 use mathlib.Core.Bool.{Bool, true, false}
 use Rattle.answers.specs.declared.Answer.{Answer}
-use Rattle.answers.specs.declared.Answer.the-variants.{Accepted, InvalidSequenceHeader, InvalidTileInfo, InvalidTrailingBits, WrongArguments, ShortBuffer}
+use Rattle.answers.specs.declared.Answer.the-variants.{Accepted, InvalidSequenceHeader, InvalidTileInfo}
+use Rattle.answers.specs.declared.Answer.the-variants.{InvalidTrailingBits, WrongArguments, ShortBuffer}
 
 -- 0 is accepted, and each refusal has its number
 abbrev pub numberOf : Answer → ℕ

@@ -18,7 +18,9 @@ pub record Sound {R : Type 0} (next : R → Place) (f : List ℕ → Place → R
   pub within : (s : List ℕ) (p : Place) → position s (next (f s p)) ≤ bitCount s
   -- the error never clears
   pub kept : (s : List ℕ) (p : Place) → p .error ≡ true → next (f s p) .error ≡ true
-  -- no error after it means that the bits were there: a reading depends only on the bits that it used, and reads the same from any data with them
-  pub local : (s t : List ℕ) (p : Place) → next (f s p) .error ≡ false → position t p ≡ position s p → Agree s t (position s p) (position s (next (f s p))) → f t p ≡ f s p
-  pub steady : (s t : List ℕ) (p : Place) → next (f s p) .error ≡ false → position t p ≡ position s p → Agree s t (position s p) (position s (next (f s p)))
-      → position t (next (f s p)) ≡ position s (next (f s p))
+  -- no error after it means that the bits were there: a reading depends only on the bits that it used,
+  -- and reads the same from any data with them
+  pub local : (s t : List ℕ) (p : Place) → next (f s p) .error ≡ false → position t p ≡ position s p
+      → Agree s t (position s p) (position s (next (f s p))) → f t p ≡ f s p
+  pub steady : (s t : List ℕ) (p : Place) → next (f s p) .error ≡ false → position t p ≡ position s p
+      → Agree s t (position s p) (position s (next (f s p))) → position t (next (f s p)) ≡ position s (next (f s p))

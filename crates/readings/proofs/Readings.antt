@@ -17,7 +17,7 @@ use Rattle.seq_inter.specs.Inter.{countIf, readDrl, readTip, readMv, readScreen
 use Rattle.seq_residual.specs.Residual.{readTransform, readEntropy, signedIf, wrappedIf, readQuant, readResidual}
 use Rattle.seq_residual.specs.Filters.{readRestoration, readFilters}
 use Rattle.seq_hdr.specs.Tiling.{tileInfoIf, readTiling}
-use Rattle.seq_hdr.specs.Header.{readStart, refused, checkTrailingBits, readHead, parseSeqHdr}
+use Rattle.seq_hdr.specs.Header.{readStart, refusedHeader, checkTrailingBits, readGroups, readHead, parseSeqHdr}
 use Rattle.readings.specs.Readings.{Row, answerTo, Holds, table, EveryRowHolds}
 
 -- every row of a list holds
@@ -34,7 +34,7 @@ unfolding Every answerTo table leadingZeros then turns bitsAt position readBits 
     readLayers readLength readFrameSize readCrop skipModels readLayerList readDependencies readPicture
     readPartition segInfoIf readSegmentation readIntra readBlocks readMotion readRefFrames
     countIf readDrl readTip readMv readScreen readInter readTransform readEntropy signedIf wrappedIf readQuant readResidual
-    readRestoration readFilters tileInfoIf readTiling readStart refused checkTrailingBits readHead parseSeqHdr
+    readRestoration readFilters tileInfoIf readTiling readStart refusedHeader checkTrailingBits readGroups readHead parseSeqHdr
 computed = (refl, (refl, (refl, (refl, (refl, (refl, (refl, (refl, (refl, (refl, (refl, (refl, (refl, (refl, (refl, tt)))))))))))))))
 
 -- a row that is in the list is one of them

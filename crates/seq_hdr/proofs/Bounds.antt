@@ -26,7 +26,7 @@ use Rattle.seq_blocks.specs.Blocks.{sbCode, readPartition, readBlocks}
 use Rattle.seq_inter.specs.Refs.{readMotion, readRefFrames}
 use Rattle.seq_hdr.specs.declared.SeqRead.{SeqRead}
 use Rattle.seq_hdr.specs.Tiling.{tilingArgs}
-use Rattle.seq_hdr.specs.Header.{readStart, unknownProfile, isMono, refused, readHead}
+use Rattle.seq_hdr.specs.Header.{readStart, unknownProfile, isMono, refusedHeader, readGroups, readHead}
 use Rattle.seq_hdr.specs.HeaderLayout.{argsBefore}
 
 small-lt : (s : List ℕ) (p : Place) (n : ℕ) → getSmall s p n .value < 2 ^ n
@@ -108,13 +108,13 @@ args-in sb128 size level b z l =
 
 -- a question before the tiling: a header that it refuses is refused
 ask : (P : SeqRead → Type 0) (t : Bool) (q : Place) {b : SeqRead} → (isRefusal (b .answer) ≡ false → P b)
-    → isRefusal (pick t (refused InvalidSequenceHeader q) b .answer) ≡ false → P (pick t (refused InvalidSequenceHeader q) b)
-unfolding refused
+    → isRefusal (pick t (refusedHeader InvalidSequenceHeader q) b .answer) ≡ false → P (pick t (refusedHeader InvalidSequenceHeader q) b)
+unfolding refusedHeader
 ask P true q f e = absurd (subst T e tt)
 ask P false q f e = f e
 
 pub head-in : (s : List ℕ) (p : Place) → isRefusal (readHead s p .answer) ≡ false → inDomain (argsBefore (readHead s p .hdr)) ≡ true
-unfolding readHead then
+unfolding readHead readGroups then
 head-in s p =
     let start = readStart s p in
     let level = readLevel s (start .next) in

@@ -15,6 +15,8 @@ use Rattle.seq_fields.specs.declared.PixelLayout.{PixelLayout}
 use Rattle.seq_fields.specs.declared.PixelLayout.the-variants.{I400, I420, I422, I444}
 use Rattle.seq_picture.specs.Level.{readLevel, readFormat}
 use Rattle.seq_picture.specs.Picture.{readPicture}
+use Rattle.seq_picture.specs.declared.Level.{Level}
+use Rattle.seq_picture.specs.declared.Format.{Format}
 use Rattle.seq_blocks.specs.Blocks.{readBlocks}
 use Rattle.seq_inter.specs.Refs.{readMotion, readRefFrames}
 use Rattle.seq_inter.specs.Inter.{readInter}
@@ -23,6 +25,7 @@ use Rattle.seq_residual.specs.Filters.{readFilters}
 use Rattle.seq_record.specs.Zero.{noSeqHdr}
 use Rattle.seq_record.specs.declared.SequenceHeader.{SequenceHeader}
 use Rattle.seq_record.specs.declared.SeqTiling.{SeqTiling}
+use Rattle.seq_record.specs.declared.Start.{Start}
 use Rattle.seq_fields.specs.declared.AdaptiveBoolean.the-variants.{Off}
 use Rattle.tile_layout.specs.Limits.{noTileInfo}
 use Rattle.seq_hdr.specs.Tiling.{readTiling}
@@ -48,8 +51,8 @@ isMono I422 = false
 isMono I444 = false
 
 -- a refused sequence answers the zero record
-unfoldable pub refused : Answer → Place → SeqRead
-refused answer p = record { answer = answer; hdr = noSeqHdr; next = p }
+unfoldable pub refusedHeader : Answer → Place → SeqRead
+refusedHeader answer p = record { answer = answer; hdr = noSeqHdr; next = p }
 
 -- strict only: after the extension bit, is there a further bit, and is it 1? The extension's content is not skipped
 unfoldable pub checkTrailingBits : Bool → SequenceHeader → List ℕ → Place → SeqRead
@@ -57,25 +60,19 @@ checkTrailingBits strict hdr s p =
     pick (not strict) (record { answer = Accepted; hdr = hdr; next = p }) (
     then (getFlag s p) λ extension.
     then (getFlag s (extension .next)) λ one.
-    pick (one .next .error || not (one .value)) (refused InvalidTrailingBits (one .next))
+    pick (one .next .error || not (one .value)) (refusedHeader InvalidTrailingBits (one .next))
     (record { answer = Accepted; hdr = hdr; next = one .next }))
 
--- everything before the tiling; the record is still without it
-unfoldable pub readHead : List ℕ → Place → SeqRead
-readHead s p =
-    then (readStart s p) λ start.
-    pick (unknownProfile (start .fields .profile)) (refused InvalidSequenceHeader (start .next)) (
-    then (readLevel s (start .next)) λ level.
-    pick (ltb 3 (level .«layout_idx»)) (refused InvalidSequenceHeader (level .next)) (
-    then (readFormat (level .«layout_idx») s (level .next)) λ format.
-    pick (ltb 2 (format .«depth_idx»)) (refused InvalidSequenceHeader (format .next)) (
-    then (isMono (format .fields .layout)) λ mono.
-    then (level .fields .«reduced_still_picture_header») λ reduced.
-    then (readPicture reduced s (format .next)) λ picture.
+-- the groups behind the format and before the tiling; the record is still without it
+unfoldable pub readGroups : Start → Level → Format → List ℕ → Place → SeqRead
+readGroups start level format s p =
+    then (isMono (format .layout)) λ mono.
+    then (level .«reduced_still_picture_header») λ reduced.
+    then (readPicture reduced s p) λ picture.
     then (readBlocks mono reduced s (picture .next)) λ blocks.
     then (readMotion reduced s (blocks .next)) λ motion.
     then (readRefFrames reduced s (motion .next)) λ refs.
-    pick (ltb 8 (refs .fields .«ref_frames»)) (refused InvalidSequenceHeader (refs .next)) (
+    pick (ltb 8 (refs .fields .«ref_frames»)) (refusedHeader InvalidSequenceHeader (refs .next)) (
     then (readInter reduced s (refs .next)) λ inter.
     then (readResidual mono reduced s (inter .next)) λ residual.
     then (blocks .fields .partition .sb128) λ sb128.
@@ -83,9 +80,9 @@ readHead s p =
     record {
       answer = Accepted;
       hdr = record {
-        start = start .fields;
-        level = level .fields;
-        format = format .fields;
+        start = start;
+        level = level;
+        format = format;
         picture = picture .fields;
         blocks = blocks .fields;
         motion = motion .fields;
@@ -97,7 +94,18 @@ readHead s p =
         «film_grain_present» = false;
       };
       next = filters .next;
-    }))))
+    })
+
+-- everything before the tiling
+unfoldable pub readHead : List ℕ → Place → SeqRead
+readHead s p =
+    then (readStart s p) λ start.
+    pick (unknownProfile (start .fields .profile)) (refusedHeader InvalidSequenceHeader (start .next)) (
+    then (readLevel s (start .next)) λ level.
+    pick (ltb 3 (level .«layout_idx»)) (refusedHeader InvalidSequenceHeader (level .next)) (
+    then (readFormat (level .«layout_idx») s (level .next)) λ format.
+    pick (ltb 2 (format .«depth_idx»)) (refusedHeader InvalidSequenceHeader (format .next))
+    (readGroups (start .fields) (level .fields) (format .fields) s (format .next))))
 
 -- the record with its last two fields
 abbrev pub withTiling : SequenceHeader → SeqTiling → Bool → SequenceHeader
@@ -123,8 +131,8 @@ parseSeqHdr s p strict =
     then (readHead s p) λ head.
     pick (isRefusal (head .answer)) head (
     then (readTiling (head .hdr .blocks .partition .sb128) (head .hdr .picture .size) (head .hdr .level) s (head .next)) λ tiling.
-    pick (isRefusal (tiling .answer)) (refused InvalidTileInfo (tiling .next)) (
+    pick (isRefusal (tiling .answer)) (refusedHeader InvalidTileInfo (tiling .next)) (
     then (getFlag s (tiling .next)) λ grain.
-    pick (grain .next .error) (refused InvalidSequenceHeader (grain .next)) (
+    pick (grain .next .error) (refusedHeader InvalidSequenceHeader (grain .next)) (
     then (withTiling (head .hdr) (tiling .fields) (grain .value)) λ hdr.
     checkTrailingBits strict hdr s (grain .next))))

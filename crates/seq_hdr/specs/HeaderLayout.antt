@@ -32,14 +32,14 @@ abbrev pub layoutArgs : List ℕ → Place → TileArgs
 layoutArgs s p = argsBefore (readHead s p .hdr)
 
 -- the call of parse_tile_info, over the zero layout
-abbrev pub layoutRead : List ℕ → Place → TileRead
-layoutRead s p = parseTileInfo s (layoutPlace s p) noTileInfo (layoutArgs s p)
+abbrev pub layoutCall : List ℕ → Place → TileRead
+layoutCall s p = parseTileInfo s (layoutPlace s p) noTileInfo (layoutArgs s p)
 
 pub record HeaderLayout (s : List ℕ) (p : Place) (r : SeqRead) : Type 0 where
   -- demand 3 holds of that call
-  pub demand3 : HasLayout s p → Demand3 s (layoutPlace s p) (layoutArgs s p) (layoutRead s p)
+  pub demand3 : HasLayout s p → Demand3 s (layoutPlace s p) (layoutArgs s p) (layoutCall s p)
   -- the header is refused with 2 exactly when the call is refused
-  pub refused-with-2 : HasLayout s p → isRefusal (layoutRead s p .answer) ≡ true → numberOf (r .answer) ≡ 2
-  pub refused-only-then : HasLayout s p → numberOf (r .answer) ≡ 2 → isRefusal (layoutRead s p .answer) ≡ true
+  pub refused-with-2 : HasLayout s p → isRefusal (layoutCall s p .answer) ≡ true → numberOf (r .answer) ≡ 2
+  pub refused-only-then : HasLayout s p → numberOf (r .answer) ≡ 2 → isRefusal (layoutCall s p .answer) ≡ true
   -- an accepted header has the call's layout
-  pub layout : HasLayout s p → isRefusal (r .answer) ≡ false → r .hdr .tiling .t ≡ layoutRead s p .info
+  pub layout : HasLayout s p → isRefusal (r .answer) ≡ false → r .hdr .tiling .t ≡ layoutCall s p .info

@@ -3,7 +3,8 @@ ghost use mathlib.Core.Path.{_≡_};
 ghost use lib.Dec.{ltb};
 ghost use Rattle.seq_hdr.specs.Tiling.{tileInfoIf, readTiling};
 ghost use Rattle.seq_hdr.specs.HeaderLayout.{HeaderLayout};
-ghost use Rattle.seq_hdr.specs.Header.{readStart, unknownProfile, isMono, refused, checkTrailingBits, readHead, withTiling, parseSeqHdr};
+ghost use Rattle.seq_hdr.specs.Header.{readStart, unknownProfile, isMono, refusedHeader, checkTrailingBits};
+ghost use Rattle.seq_hdr.specs.Header.{readGroups, readHead, withTiling, parseSeqHdr};
 use answers::Answer;
 use answers::is_refusal;
 use codes::get_vlc;
@@ -11,13 +12,13 @@ use getbits::Place;
 use getbits::flag_if;
 use getbits::get_flag;
 use seq_blocks::read_blocks;
-use seq_fields::AdaptiveBoolean;
 use seq_fields::PixelLayout;
 use seq_fields::adaptive_or;
 use seq_fields::get_small;
 use seq_inter::read_inter;
 use seq_inter::read_motion;
 use seq_inter::read_ref_frames;
+use seq_picture::Format;
 use seq_picture::FrameSize;
 use seq_picture::Level;
 use seq_picture::read_format;
@@ -140,7 +141,7 @@ fn read_tiling(s: &[u8], p: Place, sb128: u8, size: FrameSize, level: Level) -> 
 }
 
 fn refuse(answer: Answer, p: Place) -> SeqRead
-    ensures { λ r. ⌜ r ≡ refused answer p ⌝ }
+    ensures { λ r. ⌜ r ≡ refusedHeader answer p ⌝ }
 {
     let hdr = no_seq_hdr();
     SeqRead {
@@ -174,7 +175,51 @@ fn check_trailing_bits(s: &[u8], p: Place, hdr: SequenceHeader, strict: bool) ->
     }
 }
 
-// Everything before the tiling; the record is still without it.
+// The groups behind the format and before the tiling; the record is still without it.
+fn read_groups(s: &[u8], p: Place, start: Start, level: Level, format: Format) -> SeqRead
+    ensures { λ r. ⌜ r ≡ readGroups start level format (now (s .entry)) p ⌝ }
+{
+    let layout = format.layout;
+    let mono = is_mono(layout);
+    let reduced = level.reduced_still_picture_header;
+    let picture = read_picture(s, p, reduced);
+    let blocks = read_blocks(s, picture.next, mono, reduced);
+    let motion = read_motion(s, blocks.next, reduced);
+    let refs = read_ref_frames(s, motion.next, reduced);
+    if above(refs.fields.ref_frames as u32, 8) {
+        return refuse(Answer::InvalidSequenceHeader, refs.next);
+    }
+    let inter = read_inter(s, refs.next, reduced);
+    let residual = read_residual(s, inter.next, mono, reduced);
+    let sb128 = blocks.fields.partition.sb128;
+    let filters = read_filters(s, residual.next, reduced, sb128);
+    let picture = picture.fields;
+    let blocks = blocks.fields;
+    let motion = motion.fields;
+    let refs = refs.fields;
+    let inter = inter.fields;
+    let residual = residual.fields;
+    let next = filters.next;
+    let filters = filters.fields;
+    let mut hdr = no_seq_hdr();
+    hdr.start = start;
+    hdr.level = level;
+    hdr.format = format;
+    hdr.picture = picture;
+    hdr.blocks = blocks;
+    hdr.motion = motion;
+    hdr.refs = refs;
+    hdr.inter = inter;
+    hdr.residual = residual;
+    hdr.filters = filters;
+    SeqRead {
+        answer: Answer::Accepted,
+        hdr,
+        next,
+    }
+}
+
+// Everything before the tiling.
 fn read_head(s: &[u8], p: Place) -> SeqRead
     ensures { λ r. ⌜ r ≡ readHead (now (s .entry)) p ⌝ }
 {
@@ -190,85 +235,17 @@ fn read_head(s: &[u8], p: Place) -> SeqRead
     if above(format.depth_idx, 2) {
         return refuse(Answer::InvalidSequenceHeader, format.next);
     }
-    let fields = format.fields;
-    let layout = fields.layout;
-    let mono = is_mono(layout);
-    let reduced = level.fields.reduced_still_picture_header;
-    let picture = read_picture(s, format.next, reduced);
-    let blocks = read_blocks(s, picture.next, mono, reduced);
-    let motion = read_motion(s, blocks.next, reduced);
-    let refs = read_ref_frames(s, motion.next, reduced);
-    if above(refs.fields.ref_frames as u32, 8) {
-        return refuse(Answer::InvalidSequenceHeader, refs.next);
-    }
-    let inter = read_inter(s, refs.next, reduced);
-    let residual = read_residual(s, inter.next, mono, reduced);
-    let sb128 = blocks.fields.partition.sb128;
-    let filters = read_filters(s, residual.next, reduced, sb128);
-    let start = start.fields;
-    let level = level.fields;
-    let format = format.fields;
-    let picture = picture.fields;
-    let blocks = blocks.fields;
-    let motion = motion.fields;
-    let refs = refs.fields;
-    let inter = inter.fields;
-    let residual = residual.fields;
-    let next = filters.next;
-    let filters = filters.fields;
-    let t = no_tile_info();
-    let hdr = SequenceHeader {
-        start,
-        level,
-        format,
-        picture,
-        blocks,
-        motion,
-        refs,
-        inter,
-        residual,
-        filters,
-        tiling: SeqTiling {
-            present: AdaptiveBoolean::Off,
-            t,
-        },
-        film_grain_present: false,
-    };
-    SeqRead {
-        answer: Answer::Accepted,
-        hdr,
-        next,
-    }
+    read_groups(s, format.next, start.fields, level.fields, format.fields)
 }
 
 // The record with its last two fields.
 fn with_tiling(hdr: SequenceHeader, tiling: SeqTiling, film_grain_present: bool) -> SequenceHeader
     ensures { λ r. ⌜ r ≡ withTiling hdr tiling «film_grain_present» ⌝ }
 {
-    let start = hdr.start;
-    let level = hdr.level;
-    let format = hdr.format;
-    let picture = hdr.picture;
-    let blocks = hdr.blocks;
-    let motion = hdr.motion;
-    let refs = hdr.refs;
-    let inter = hdr.inter;
-    let residual = hdr.residual;
-    let filters = hdr.filters;
-    SequenceHeader {
-        start,
-        level,
-        format,
-        picture,
-        blocks,
-        motion,
-        refs,
-        inter,
-        residual,
-        filters,
-        tiling,
-        film_grain_present,
-    }
+    let mut whole = hdr;
+    whole.tiling = tiling;
+    whole.film_grain_present = film_grain_present;
+    whole
 }
 
 pub fn parse_seq_hdr(s: &[u8], p: Place, strict: bool) -> SeqRead

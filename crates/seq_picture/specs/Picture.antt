@@ -92,7 +92,8 @@ layer sent s n r =
 unfoldable pub readLayerList : ℕ → List ℕ → Place → LayerList
 readLayerList max s p =
     then (flagIf (ltb 0 max) s p) λ sent.
-    turns (max - 1) (λ i. layer (sent .value) s (i + 1)) (record { present = sent .value; dependencies = replicate 8 0; next = sent .next })
+    turns (max - 1) (λ i. layer (sent .value) s (i + 1))
+    (record { present = sent .value; dependencies = replicate 8 0; next = sent .next })
 
 -- the temporal layers' dependencies, then the embedded layers'
 unfoldable pub readDependencies : ℕ → ℕ → List ℕ → Place → DependenciesRead

@@ -32,9 +32,24 @@ noPicture = record {
 -- partition, segmentation, intra tools
 abbrev pub noBlocks : Blocks
 noBlocks = record {
-  partition = record { sb128 = 0; sdp = false; «ext_sdp» = false; «ext_partitions» = false; «uneven_4way_partitions» = false; «max_pb_aspect_ratio_log2» = 0 };
+  partition = record {
+    sb128 = 0;
+    sdp = false;
+    «ext_sdp» = false;
+    «ext_partitions» = false;
+    «uneven_4way_partitions» = false;
+    «max_pb_aspect_ratio_log2» = 0;
+  };
   segmentation = record { ext = false; «info_present» = false; adaptive = false; d = noSegInfo };
-  intra = record { «intra_dip» = false; «intra_edge_filter» = false; mrls = false; cfl = false; «cfl_ds_filter_index» = 0; mhccp = false; ibp = false };
+  intra = record {
+    «intra_dip» = false;
+    «intra_edge_filter» = false;
+    mrls = false;
+    cfl = false;
+    «cfl_ds_filter_index» = 0;
+    mhccp = false;
+    ibp = false;
+  };
 }
 
 -- motion modes
@@ -51,7 +66,13 @@ noMotion = record {
 
 -- reference frames
 abbrev pub noRefFrames : RefFrames
-noRefFrames = record { «refmv_bank» = false; «drl_reorder» = 0; «explicit_ref_frame_map» = false; «ref_frames» = 0; «ref_frames_log2» = 0 }
+noRefFrames = record {
+  «refmv_bank» = false;
+  «drl_reorder» = 0;
+  «explicit_ref_frame_map» = false;
+  «ref_frames» = 0;
+  «ref_frames_log2» = 0;
+}
 
 -- inter tools
 abbrev pub noInter : Inter

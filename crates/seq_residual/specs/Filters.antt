@@ -27,7 +27,8 @@ readRestoration s p =
     record {
       restoration = restoration .value;
       mask = wienerMask (noNs .value) (noPc .value);
-      «uv_mask» = pick (separate .value) (wienerMask (noNsUv .value) (restoration .value)) (wienerMask (noNs .value) (restoration .value));
+      «uv_mask» =
+          pick (separate .value) (wienerMask (noNsUv .value) (restoration .value)) (wienerMask (noNs .value) (restoration .value));
       next = noNsUv .next;
     }
 

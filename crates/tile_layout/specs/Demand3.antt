@@ -65,10 +65,13 @@ pub record AcceptedLayout (s : List ℕ) (p : Place) (a : TileArgs) (t : TileInf
   pub rows-add-up : sum (tabulate (rowSize t) 0 (t .rows)) ≡ sbh a
   -- no tile of a non-uniform one covers more superblocks than the level's area limit
   pub area-limit : NonUniform s p → (i j : ℕ) → i < t .cols → j < t .rows → colSize t i * rowSize t j ≤ areaLimit a
-  -- in a uniform one no column is more than one superblock larger than another column, if frame and sequence superblocks have one size
-  pub cols-even : Uniform s p → a .«frame_code» ≡ a .«seq_code» → (i k : ℕ) → i < t .cols → k < t .cols → colSize t i ≤ colSize t k + 1
+  -- in a uniform one no column is more than one superblock larger than another column,
+  -- if frame and sequence superblocks have one size
+  pub cols-even : Uniform s p → a .«frame_code» ≡ a .«seq_code»
+      → (i k : ℕ) → i < t .cols → k < t .cols → colSize t i ≤ colSize t k + 1
   -- and no row than another row
-  pub rows-even : Uniform s p → a .«frame_code» ≡ a .«seq_code» → (j k : ℕ) → j < t .rows → k < t .rows → rowSize t j ≤ rowSize t k + 1
+  pub rows-even : Uniform s p → a .«frame_code» ≡ a .«seq_code»
+      → (j k : ℕ) → j < t .rows → k < t .rows → rowSize t j ≤ rowSize t k + 1
 
 pub record Demand3 (s : List ℕ) (p : Place) (a : TileArgs) (z : TileRead) : Type 0 where
   -- a uniform layout is never refused

@@ -13,7 +13,8 @@ use Rattle.codes.specs.Codes.{plus, runOf, getUniform}
 use Rattle.tile_layout.specs.declared.TileArgs.{TileArgs}
 use Rattle.tile_layout.specs.declared.TileInfo.{TileInfo}
 use Rattle.tile_layout.specs.declared.TileRead.{TileRead}
-use Rattle.tile_layout.specs.Limits.{inDomain, size, superblocks, sbw, sbh, widthLimit, tileLog2, minLog2Cols, maxLog2Cols, maxLog2Rows, minLog2Tiles}
+use Rattle.tile_layout.specs.Limits.{inDomain, size, superblocks, sbw, sbh, widthLimit}
+use Rattle.tile_layout.specs.Limits.{tileLog2, minLog2Cols, maxLog2Cols, maxLog2Rows, minLog2Tiles}
 
 -- the array after: the starts and the closing one, and behind them what was there
 abbrev pub over : List ℕ → List ℕ → List ℕ
@@ -90,7 +91,8 @@ pub record Sizes : Type 0 where
   pub sizes : List ℕ
   pub next : Place
 
--- each size is get_uniform(max) + 1, max being the smaller of what remains and the limit, until nothing remains or there are `most` sizes
+-- each size is get_uniform(max) + 1, max being the smaller of what remains and the limit,
+-- until nothing remains or there are `most` sizes
 unfoldable pub readSizes : ℕ → List ℕ → Place → ℕ → ℕ → Sizes
 readSizes zero s p remains limit = record { sizes = []; next = p }
 readSizes (suc most) s p zero limit = record { sizes = []; next = p }

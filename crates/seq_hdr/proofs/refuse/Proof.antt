@@ -1,12 +1,12 @@
 -- `seq_hdr::refuse` meets its contract. Assumes nothing.
 use mathlib.Core.Path.{sym}
 use borrow.Author.Needs.{needs}
-use Rattle.seq_hdr.specs.Header.{refused}
+use Rattle.seq_hdr.specs.Header.{refusedHeader}
 use Rattle.seq_hdr.proofs.refuse.Statement.{statement}
 use Rattle.seq_hdr.proofs.refuse.Tie as tie
 
 returns : tie.Need-returns
-unfolding refused
+unfolding refusedHeader
 returns c =
     sym (sym (simp (c .no-seq-hdr .ensures)))
 
