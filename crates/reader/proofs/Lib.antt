@@ -1,6 +1,7 @@
 pub mod Param
 pub mod Claim
 pub mod Types
+pub mod Locals
 pub mod Operation
 pub mod After
 pub mod Headers

@@ -85,12 +85,15 @@ impl<'a> GetBits<'a> {
         }
     }
 
+    // At a place, which is kept as it is given: one past the last bit, or with more than 7 bits used, counts as the end,
+    // and the first operation hands it back as the end.
     pub fn at_place(data: &'a [u8], at: Place) -> GetBits<'a>
         ensures { λ r. ⌜ r ≡ readerAt («data» .entry) at ⌝ }
     {
         GetBits { data, at }
     }
 
+    // The place as at_place was given it, or as the last operation handed it back.
     pub fn place(self) -> Place
         ensures { λ r. ⌜ r ≡ self .entry .at ⌝ }
     {

@@ -14,7 +14,7 @@ use Rattle.reader.proofs.GetBits.bytealign.Key.{name as #bytealign}
 use Rattle.reader.proofs.GetBits.bytealign.Statement as stated
 use Rattle.reader.proofs.GetBits.bytealign.Code as code
 use Rattle.reader.proofs.Claim.{Answer, proved}
-use Rattle.reader.proofs.Operation.{op, walk-0}
+use Rattle.reader.proofs.Operation.{op, walk}
 use Rattle.reader.proofs.Param.{bytes}
 use Rattle.reader.proofs.Types.{place, reader}
 
@@ -31,5 +31,5 @@ bytealign-spec 𝓤 H 𝓜 𝓖 𝓡 =
     proved 𝓤 H 𝓜 𝓖 𝓡 code.env #bytealign code.function (code.unfolded 𝓤 H 𝓜 𝓡) (reader ∷ []) reader (op [] place reader f g)
     (λ κs xs. bytealign.clauses 𝓤 H (𝓖 .A) (𝓜 .mem) (𝓡 .run) κs xs .ensures tt) (λ κs xs r e. refl)
     (λ 𝓣 cite.
-    walk-0 𝓤 H (𝓖 .A) (givenOf 𝓤 H 𝓜 𝓖) 𝓣 place reader f-def.name g-def.name f g
+    walk 𝓤 H (𝓖 .A) (givenOf 𝓤 H 𝓜 𝓖) 𝓣 [] place reader f-def.name g-def.name f g
     (cite _ f-def.name f-def.routine code.calls-getbits·bytealign (f-thm.met 𝓤 H 𝓜 𝓖 𝓡), cite _ g-def.name g-def.routine code.calls-reader·GetBits·at-place (g-thm.met 𝓤 H 𝓜 𝓖 𝓡)))

@@ -14,7 +14,7 @@ use Rattle.reader.proofs.GetBits.get_bit.Key.{name as #get-bit}
 use Rattle.reader.proofs.GetBits.get_bit.Statement as stated
 use Rattle.reader.proofs.GetBits.get_bit.Code as code
 use Rattle.reader.proofs.Claim.{Answer, proved}
-use Rattle.reader.proofs.Operation.{op, walk-0}
+use Rattle.reader.proofs.Operation.{op, walk}
 use Rattle.reader.proofs.Param.{bytes}
 use Rattle.reader.proofs.Types.{place, number, reader, read}
 
@@ -31,5 +31,5 @@ get-bit-spec 𝓤 H 𝓜 𝓖 𝓡 =
     proved 𝓤 H 𝓜 𝓖 𝓡 code.env #get-bit code.function (code.unfolded 𝓤 H 𝓜 𝓡) (reader ∷ []) read (op [] number read f g)
     (λ κs xs. get-bit.clauses 𝓤 H (𝓖 .A) (𝓜 .mem) (𝓡 .run) κs xs .ensures tt) (λ κs xs r e. refl)
     (λ 𝓣 cite.
-    walk-0 𝓤 H (𝓖 .A) (givenOf 𝓤 H 𝓜 𝓖) 𝓣 number read f-def.name g-def.name f g
+    walk 𝓤 H (𝓖 .A) (givenOf 𝓤 H 𝓜 𝓖) 𝓣 [] number read f-def.name g-def.name f g
     (cite _ f-def.name f-def.routine code.calls-getbits·get-bit (f-thm.met 𝓤 H 𝓜 𝓖 𝓡), cite _ g-def.name g-def.routine code.calls-reader·after-number (g-thm.met 𝓤 H 𝓜 𝓖 𝓡)))

@@ -15,7 +15,7 @@ use Rattle.reader.proofs.GetBits.get_bits.Key.{name as #get-bits}
 use Rattle.reader.proofs.GetBits.get_bits.Statement as stated
 use Rattle.reader.proofs.GetBits.get_bits.Code as code
 use Rattle.reader.proofs.Claim.{Answer, proved}
-use Rattle.reader.proofs.Operation.{op, walk-1}
+use Rattle.reader.proofs.Operation.{op, walk}
 use Rattle.reader.proofs.Param.{sint, bytes}
 use Rattle.reader.proofs.Types.{place, number, reader, read}
 
@@ -32,5 +32,5 @@ get-bits-spec 𝓤 H 𝓜 𝓖 𝓡 =
     proved 𝓤 H 𝓜 𝓖 𝓡 code.env #get-bits code.function (code.unfolded 𝓤 H 𝓜 𝓡) (reader ∷ sint w32 ∷ []) read (op (sint w32 ∷ []) number read f g)
     (λ κs xs. get-bits.clauses 𝓤 H (𝓖 .A) (𝓜 .mem) (𝓡 .run) κs xs .ensures tt) (λ κs xs r e. refl)
     (λ 𝓣 cite.
-    walk-1 𝓤 H (𝓖 .A) (givenOf 𝓤 H 𝓜 𝓖) 𝓣 number read f-def.name g-def.name (sint w32) f g
+    walk 𝓤 H (𝓖 .A) (givenOf 𝓤 H 𝓜 𝓖) 𝓣 (sint w32 ∷ []) number read f-def.name g-def.name f g
     (cite _ f-def.name f-def.routine code.calls-getbits·get-bits (f-thm.met 𝓤 H 𝓜 𝓖 𝓡), cite _ g-def.name g-def.routine code.calls-reader·after-number (g-thm.met 𝓤 H 𝓜 𝓖 𝓡)))

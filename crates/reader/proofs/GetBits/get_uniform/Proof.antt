@@ -15,7 +15,7 @@ use Rattle.reader.proofs.GetBits.get_uniform.Key.{name as #get-uniform}
 use Rattle.reader.proofs.GetBits.get_uniform.Statement as stated
 use Rattle.reader.proofs.GetBits.get_uniform.Code as code
 use Rattle.reader.proofs.Claim.{Answer, proved}
-use Rattle.reader.proofs.Operation.{op, walk-1}
+use Rattle.reader.proofs.Operation.{op, walk}
 use Rattle.reader.proofs.Param.{uint, bytes}
 use Rattle.reader.proofs.Types.{place, number, reader, read}
 
@@ -32,5 +32,5 @@ get-uniform-spec 𝓤 H 𝓜 𝓖 𝓡 =
     proved 𝓤 H 𝓜 𝓖 𝓡 code.env #get-uniform code.function (code.unfolded 𝓤 H 𝓜 𝓡) (reader ∷ uint w32 ∷ []) read (op (uint w32 ∷ []) number read f g)
     (λ κs xs. get-uniform.clauses 𝓤 H (𝓖 .A) (𝓜 .mem) (𝓡 .run) κs xs .ensures tt) (λ κs xs r e. refl)
     (λ 𝓣 cite.
-    walk-1 𝓤 H (𝓖 .A) (givenOf 𝓤 H 𝓜 𝓖) 𝓣 number read f-def.name g-def.name (uint w32) f g
+    walk 𝓤 H (𝓖 .A) (givenOf 𝓤 H 𝓜 𝓖) 𝓣 (uint w32 ∷ []) number read f-def.name g-def.name f g
     (cite _ f-def.name f-def.routine code.calls-codes·get-uniform (f-thm.met 𝓤 H 𝓜 𝓖 𝓡), cite _ g-def.name g-def.routine code.calls-reader·after-number (g-thm.met 𝓤 H 𝓜 𝓖 𝓡)))

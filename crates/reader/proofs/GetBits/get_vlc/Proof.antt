@@ -14,7 +14,7 @@ use Rattle.reader.proofs.GetBits.get_vlc.Key.{name as #get-vlc}
 use Rattle.reader.proofs.GetBits.get_vlc.Statement as stated
 use Rattle.reader.proofs.GetBits.get_vlc.Code as code
 use Rattle.reader.proofs.Claim.{Answer, proved}
-use Rattle.reader.proofs.Operation.{op, walk-0}
+use Rattle.reader.proofs.Operation.{op, walk}
 use Rattle.reader.proofs.Param.{bytes}
 use Rattle.reader.proofs.Types.{place, number, reader, read}
 
@@ -31,5 +31,5 @@ get-vlc-spec 𝓤 H 𝓜 𝓖 𝓡 =
     proved 𝓤 H 𝓜 𝓖 𝓡 code.env #get-vlc code.function (code.unfolded 𝓤 H 𝓜 𝓡) (reader ∷ []) read (op [] number read f g)
     (λ κs xs. get-vlc.clauses 𝓤 H (𝓖 .A) (𝓜 .mem) (𝓡 .run) κs xs .ensures tt) (λ κs xs r e. refl)
     (λ 𝓣 cite.
-    walk-0 𝓤 H (𝓖 .A) (givenOf 𝓤 H 𝓜 𝓖) 𝓣 number read f-def.name g-def.name f g
+    walk 𝓤 H (𝓖 .A) (givenOf 𝓤 H 𝓜 𝓖) 𝓣 [] number read f-def.name g-def.name f g
     (cite _ f-def.name f-def.routine code.calls-codes·get-vlc (f-thm.met 𝓤 H 𝓜 𝓖 𝓡), cite _ g-def.name g-def.routine code.calls-reader·after-number (g-thm.met 𝓤 H 𝓜 𝓖 𝓡)))

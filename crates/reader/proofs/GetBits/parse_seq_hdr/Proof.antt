@@ -18,7 +18,7 @@ use Rattle.reader.proofs.GetBits.parse_seq_hdr.Key.{name as #parse-seq-
 use Rattle.reader.proofs.GetBits.parse_seq_hdr.Statement as stated
 use Rattle.reader.proofs.GetBits.parse_seq_hdr.Code as code
 use Rattle.reader.proofs.Claim.{Answer, Fact, equals, first, proved-two}
-use Rattle.reader.proofs.Operation.{op, walk-1}
+use Rattle.reader.proofs.Operation.{op, walk}
 use Rattle.reader.proofs.Param.{Param, rows, boolean, bytes}
 use Rattle.reader.proofs.Types.{place, reader, seq-read, seq-hdr-read}
 
@@ -52,7 +52,7 @@ parse-seq-hdr-spec 𝓤 H 𝓜 𝓖 𝓡 =
     proved-two 𝓤 H 𝓜 𝓖 𝓡 code.env #parse-seq-hdr code.function (code.unfolded 𝓤 H 𝓜 𝓡) Ps seq-hdr-read φ ψ law
     (λ κs xs. parse-seq-hdr.clauses 𝓤 H (𝓖 .A) (𝓜 .mem) (𝓡 .run) κs xs .ensures tt) (λ κs xs r e. refl)
     (λ 𝓣 cite.
-    walk-1 𝓤 H (𝓖 .A) (givenOf 𝓤 H 𝓜 𝓖) 𝓣 seq-read seq-hdr-read f-def.name g-def.name boolean f g (
+    walk 𝓤 H (𝓖 .A) (givenOf 𝓤 H 𝓜 𝓖) 𝓣 (boolean ∷ []) seq-read seq-hdr-read f-def.name g-def.name f g (
       cite _ f-def.name f-def.routine code.calls-seq-hdr·parse-seq-hdr (first 𝓤 H 𝓜 𝓖 𝓡 Fs seq-read (equals Fs seq-read f) (λ κs xs r. HeaderLayout (now (xs .0)) (xs .1 .0) r) f-def.routine (f-thm.met 𝓤 H 𝓜 𝓖 𝓡)),
       cite _ g-def.name g-def.routine code.calls-reader·after-seq-hdr (g-thm.met 𝓤 H 𝓜 𝓖 𝓡),
     ))

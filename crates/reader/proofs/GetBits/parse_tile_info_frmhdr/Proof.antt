@@ -18,7 +18,7 @@ use Rattle.reader.proofs.GetBits.parse_tile_info_frmhdr.Key.{name as #p
 use Rattle.reader.proofs.GetBits.parse_tile_info_frmhdr.Statement as stated
 use Rattle.reader.proofs.GetBits.parse_tile_info_frmhdr.Code as code
 use Rattle.reader.proofs.Claim.{Answer, Fact, equals, first, proved-two}
-use Rattle.reader.proofs.Operation.{op, walk-2}
+use Rattle.reader.proofs.Operation.{op, walk}
 use Rattle.reader.proofs.Param.{Param, rows, bytes}
 use Rattle.reader.proofs.Types.{place, reader, frame-header, seq-header, frame-read, frame-hdr-read}
 
@@ -52,7 +52,7 @@ parse-tile-info-frmhdr-spec 𝓤 H 𝓜 𝓖 𝓡 =
     proved-two 𝓤 H 𝓜 𝓖 𝓡 code.env #parse-tile-info-frmhdr code.function (code.unfolded 𝓤 H 𝓜 𝓡) Ps frame-hdr-read φ ψ law
     (λ κs xs. parse-tile-info-frmhdr.clauses 𝓤 H (𝓖 .A) (𝓜 .mem) (𝓡 .run) κs xs .ensures tt) (λ κs xs r e. refl)
     (λ 𝓣 cite.
-    walk-2 𝓤 H (𝓖 .A) (givenOf 𝓤 H 𝓜 𝓖) 𝓣 frame-read frame-hdr-read f-def.name g-def.name frame-header seq-header f g (
+    walk 𝓤 H (𝓖 .A) (givenOf 𝓤 H 𝓜 𝓖) 𝓣 (frame-header ∷ seq-header ∷ []) frame-read frame-hdr-read f-def.name g-def.name f g (
       cite _ f-def.name f-def.routine code.calls-frame-hdr·parse-tile-info-frmhdr (first 𝓤 H 𝓜 𝓖 𝓡 Fs frame-read (equals Fs frame-read f) (λ κs xs r. FreshDemand3 (now (xs .0)) (xs .1 .0) (xs .1 .1 .0) (seqLayout (xs .1 .1 .1 .0)) r) f-def.routine (f-thm.met 𝓤 H 𝓜 𝓖 𝓡)),
       cite _ g-def.name g-def.routine code.calls-reader·after-frame-hdr (g-thm.met 𝓤 H 𝓜 𝓖 𝓡),
     ))
