@@ -1,6 +1,6 @@
 -- What right arguments are known to be. Assumes nothing.
 use mathlib.Core.Path.{_≡_, refl, sym, subst}
-use mathlib.Core.Bool.{Bool, true, false, _&&_}
+use mathlib.Core.Bool.{true, _&&_}
 use Prim.Native.Nat.{ℕ, _^_, _≤_, _<_}
 use borrow.Author.Tests.{ltb-true, leb-true}
 use lib.Dec.{T, ltb, leb}

@@ -4,10 +4,10 @@ use mathlib.Core.List.{List}
 use mathlib.Core.Bool.{Bool, true, false, _&&_}
 use lib.Count.{leadingZeros}
 use lib.Dec.{ltb, leb, eqb}
-use lib.IntN.{ℤ, pos, negsuc, natAbs, _+ℤ_, _-ℤ_}
+use lib.IntN.{ℤ, pos, natAbs, _+ℤ_, _-ℤ_}
 use lib.Signed.{leZ, ltZ}
 use Rattle.getbits.specs.Chain.{pick, then}
-use Rattle.getbits.specs.Bits.{position, placeAt, settled, refused, readBits, getBit}
+use Rattle.getbits.specs.Bits.{settled, refused, readBits, getBit}
 use Rattle.getbits.specs.declared.Place.{Place}
 use Rattle.getbits.specs.declared.Number.{Number}
 use Rattle.getbits.specs.declared.Signed.{Signed}

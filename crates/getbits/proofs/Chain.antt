@@ -1,6 +1,6 @@
 -- The laws that follow the code through a definition: `through` past a step, `taken` and `left` past a question, `turns-more` round a loop.
 -- A proof that r is such a definition's value is  sym (through _ _ e₀ ∙ left _ _ _ e₁ ∙ ..)  with the code's facts e₀, e₁, .. in order.
-use Prim.Native.Nat.{ℕ, zero, suc, _+_}
+use Prim.Native.Nat.{ℕ, _+_}
 use native.Mathlib.Numerals.{add-one}
 use mathlib.Core.Path.{_≡_, refl, ap, sym, subst}
 use mathlib.Core.Bool.{Bool, true, false, _&&_}
