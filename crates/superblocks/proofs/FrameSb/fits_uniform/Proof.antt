@@ -1,0 +1,18 @@
+-- `superblocks::FrameSb::fits_uniform` meets its contract. Assumes nothing.
+use Prim.Native.Nat.{_+_, _-_}
+use native.Mathlib.Nat.{lt-of-le-of-lt}
+use Rattle.superblocks.specs.Counts.{fitsUniform}
+use borrow.Author.Needs.{needs}
+use Rattle.superblocks.proofs.Counts.{part-le}
+use Rattle.superblocks.proofs.FrameSb.fits_uniform.Statement.{statement}
+use Rattle.superblocks.proofs.FrameSb.fits_uniform.Tie as tie
+
+mul-result : tie.Need-mul-result
+mul-result c = record { fits = lt-of-le-of-lt (part-le (c .wide2 .result + (c .before .wide .result - 1)) (c .before .wide .result)) (search needs) }
+
+returns : tie.Need-returns
+unfolding fitsUniform
+returns c = rw (c .wide2 .ensures, c .before .wide .ensures, c .before .before .power .ensures .0)
+
+pub fits-uniform-spec : {M : Type 1} → statement M
+fits-uniform-spec = tie.close (tie.spec (λ c κs. search needs) (λ c κs. search needs) (λ c κs. search needs) (λ c. search needs) (λ c. search needs) (λ c. search needs) (λ c. search needs) mul-result returns)

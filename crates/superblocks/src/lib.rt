@@ -1,0 +1,409 @@
+// Counts of superblocks, of the sequence's size and of the frame's, as two types. No function adds the one to the other: `in_frame` alone turns the one
+// into the other, by the multiplier of the pair of codes, and `same_number` alone compares the two as they are. Every function has an answer for every argument.
+ghost use mathlib.Core.Path.{_≡_};
+ghost use Prim.Native.Nat.{_+_, _-_, _*_, _/_, _%_, _^_, _≤_, min, max};
+ghost use lib.Dec.{ltb, eqb};
+ghost use lib.ListN.{getD, set};
+ghost use Rattle.codes.specs.Codes.{getUniform};
+ghost use Rattle.tile_layout.specs.Limits.{isSize, superblocks, tileLog2};
+ghost use Rattle.tile_layout.specs.Layout.{base, count, larger};
+ghost use Rattle.superblocks.specs.Counts.{multiplierOf, sizeOf, fitsUniform};
+use codes::get_uniform;
+use getbits::Place;
+
+// A count of the sequence's superblocks.
+pub struct SeqSb(u32);
+
+// A count of the frame's superblocks.
+pub struct FrameSb(u32);
+
+// An area in the frame's superblocks.
+pub struct AreaSb(u32);
+
+// A count of tiles.
+pub struct TileCount(u32);
+
+// The superblock codes of a frame and of its sequence.
+pub struct Pair {
+    frame_code: u8,
+    seq_code: u8,
+}
+
+// How a row of superblocks is split: `tiles` tiles of `tile` superblocks, the first `extra` of them one larger.
+pub struct Split {
+    pub tile: SeqSb,
+    pub extra: TileCount,
+    pub tiles: TileCount,
+}
+
+// The starts of a sequence's layout.
+pub struct SeqStarts([u16; 65]);
+
+// The size of a column or a row, and the place behind it.
+pub struct TileSize {
+    pub size: FrameSb,
+    pub next: Place,
+}
+
+// 2 ^ n, for n below 32.
+pub fn power(n: u8) -> u32
+    ensures { λ r. ⌜ (r ≡ 2 ^ (n % 32)) × (1 ≤ r) ⌝ }
+{
+    1 << (n % 32)
+}
+
+// Frame width and height are 1 to 65,536.
+pub fn is_size(n: u32) -> bool
+    ensures { λ r. ⌜ r ≡ isSize n ⌝ }
+{
+    (1 <= n) & (n <= 65536)
+}
+
+// How many of the frame's superblocks one of the sequence's is wide.
+pub fn multiplier_of(frame_code: u8, seq_code: u8) -> u32
+    ensures { λ r. ⌜ (r ≡ multiplierOf «frame_code» «seq_code») × (r ≤ 2) ⌝ }
+{
+    if (frame_code == 1) & (seq_code == 2) {
+        2
+    } else {
+        1
+    }
+}
+
+fn wide(x: u32) -> u64
+    ensures { λ r. ⌜ r ≡ x ⌝ }
+{
+    x as u64
+}
+
+fn umin(a: u32, b: u32) -> u32
+    ensures { λ r. ⌜ r ≡ min a b ⌝ }
+{
+    if a < b { a } else { b }
+}
+
+fn umax(a: u32, b: u32) -> u32
+    ensures { λ r. ⌜ r ≡ max a b ⌝ }
+{
+    if a < b { b } else { a }
+}
+
+// At most 2 ^ 32 - 1.
+fn cut(n: u64) -> u32
+    ensures { λ r. ⌜ r ≡ min n 4294967295 ⌝ }
+{
+    if n < 4294967295 { n as u32 } else { 4294967295 }
+}
+
+// A code above 2 counts as 2.
+fn low_code(code: u8) -> u8
+    ensures { λ r. ⌜ r ≡ min code 2 ⌝ }
+{
+    if code < 2 { code } else { 2 }
+}
+
+// The size of a superblock in samples.
+fn sb_size(code: u8) -> u32
+    ensures { λ r. ⌜ (r ≡ sizeOf code) × (64 ≤ r) × (r ≤ 256) ⌝ }
+{
+    64 * power(low_code(code))
+}
+
+// n samples in superblocks of a size, rounded up.
+fn sb_count(n: u32, code: u8) -> u32
+    ensures { λ r. ⌜ r ≡ superblocks n (min code 2) ⌝ }
+{
+    let sbsz = wide(sb_size(code));
+    ((wide(n) + (sbsz - 1)) / sbsz) as u32
+}
+
+// The place of an entry of a layout: one above 64 counts as 64.
+fn entry(i: u8) -> usize
+    ensures { λ r. ⌜ (r ≡ min i 64) × (r ≤ 64) ⌝ }
+{
+    if i < 64 { i as usize } else { 64 }
+}
+
+// The least k, at most 20, with sz * 2 ^ k at least tgt.
+fn tile_log2(sz: u32, tgt: u32) -> u8
+    ensures { λ r. ⌜ r ≡ tileLog2 sz tgt ⌝ }
+{
+    let goal = wide(tgt);
+    let mut reach = wide(sz);
+    let mut k: u8 = 0;
+    while (k < 20) & (reach < goal) {
+        reach *= 2;
+        k += 1;
+    }
+    k
+}
+
+// The logarithm of a number of tiles, rounded up.
+pub fn tiles_log2(tiles: u8) -> u8
+    ensures { λ r. ⌜ r ≡ tileLog2 1 tiles ⌝ }
+{
+    tile_log2(1, tiles as u32)
+}
+
+impl Pair {
+    pub fn of(frame_code: u8, seq_code: u8) -> Pair
+        ensures { λ r. ⌜ (r .«frame_code» ≡ «frame_code») × (r .«seq_code» ≡ «seq_code») ⌝ }
+    {
+        Pair {
+            frame_code,
+            seq_code,
+        }
+    }
+
+    // Is the multiplier 2?
+    pub fn doubles(self) -> bool
+        ensures { λ r. ⌜ r ≡ eqb (multiplierOf (self .«frame_code») (self .«seq_code»)) 2 ⌝ }
+    {
+        multiplier_of(self.frame_code, self.seq_code) == 2
+    }
+
+    // The frame's superblocks along n samples, rounded up.
+    pub fn frame_count(self, n: u32) -> FrameSb
+        ensures { λ r. ⌜ r .0 ≡ superblocks n (min (self .«frame_code») 2) ⌝ }
+    {
+        FrameSb(sb_count(n, self.frame_code))
+    }
+
+    // The sequence's superblocks along n samples, rounded up.
+    pub fn seq_count(self, n: u32) -> SeqSb
+        ensures { λ r. ⌜ r .0 ≡ superblocks n (min (self .«seq_code») 2) ⌝ }
+    {
+        SeqSb(sb_count(n, self.seq_code))
+    }
+
+    // The sequence's superblocks along n samples; a last one that lacks 8 samples or more isn't counted.
+    pub fn full_count(self, n: u32) -> SeqSb
+        ensures { λ r. ⌜ r .0 ≡ max 1 ((n + 7) / sizeOf (self .«seq_code»)) ⌝ }
+    {
+        let full = (wide(n) + 7) / wide(sb_size(self.seq_code));
+        SeqSb(umax(1, full as u32))
+    }
+
+    // The frame's superblocks that n samples hold.
+    pub fn width_limit(self, n: u32) -> FrameSb
+        ensures { λ r. ⌜ r .0 ≡ n / sizeOf (self .«frame_code») ⌝ }
+    {
+        FrameSb(n / sb_size(self.frame_code))
+    }
+
+    // The frame's superblocks that an area of n samples holds.
+    pub fn area_limit(self, n: u32) -> AreaSb
+        ensures { λ r. ⌜ r .0 ≡ n / (sizeOf (self .«frame_code») * sizeOf (self .«frame_code»)) ⌝ }
+    {
+        let sbsz = sb_size(self.frame_code);
+        AreaSb(n / (sbsz * sbsz))
+    }
+}
+
+impl SeqSb {
+    pub fn none() -> SeqSb
+        ensures { λ r. ⌜ r .0 ≡ 0 ⌝ }
+    {
+        SeqSb(0)
+    }
+
+    pub fn one() -> SeqSb
+        ensures { λ r. ⌜ r .0 ≡ 1 ⌝ }
+    {
+        SeqSb(1)
+    }
+
+    pub fn plus(self, b: SeqSb) -> SeqSb
+        ensures { λ r. ⌜ r .0 ≡ (self .0 + b .0) % 4294967296 ⌝ }
+    {
+        SeqSb(std::num::wrapping_add_u32(self.0, b.0))
+    }
+
+    // The multiplier turns a count of the sequence's superblocks into one of the frame's.
+    pub fn in_frame(self, pair: Pair) -> FrameSb
+        ensures { λ r. ⌜ r .0 ≡ multiplierOf (pair .«frame_code») (pair .«seq_code») * self .0 % 4294967296 ⌝ }
+    {
+        if pair.doubles() {
+            return FrameSb(std::num::wrapping_add_u32(self.0, self.0));
+        }
+        FrameSb(self.0)
+    }
+
+    // The numbers alone, though the superblocks may have two sizes: the Rust compares them so.
+    pub fn same_number(self, b: FrameSb) -> bool
+        ensures { λ r. ⌜ r ≡ eqb (self .0) (b .0) ⌝ }
+    {
+        self.0 == b.0
+    }
+}
+
+impl FrameSb {
+    pub fn none() -> FrameSb
+        ensures { λ r. ⌜ r .0 ≡ 0 ⌝ }
+    {
+        FrameSb(0)
+    }
+
+    pub fn plus(self, b: FrameSb) -> FrameSb
+        ensures { λ r. ⌜ r .0 ≡ (self .0 + b .0) % 4294967296 ⌝ }
+    {
+        FrameSb(std::num::wrapping_add_u32(self.0, b.0))
+    }
+
+    // 0 where b is larger.
+    pub fn minus(self, b: FrameSb) -> FrameSb
+        ensures { λ r. ⌜ r .0 ≡ self .0 - b .0 ⌝ }
+    {
+        if self.0 < b.0 {
+            return FrameSb(0);
+        }
+        FrameSb(self.0 - b.0)
+    }
+
+    pub fn most(self, b: FrameSb) -> FrameSb
+        ensures { λ r. ⌜ r .0 ≡ max (self .0) (b .0) ⌝ }
+    {
+        FrameSb(umax(self.0, b.0))
+    }
+
+    pub fn below(self, b: FrameSb) -> bool
+        ensures { λ r. ⌜ r ≡ ltb (self .0) (b .0) ⌝ }
+    {
+        self.0 < b.0
+    }
+
+    // The area of these columns and `rows` rows.
+    pub fn times(self, rows: FrameSb) -> AreaSb
+        ensures { λ r. ⌜ r .0 ≡ min (self .0 * rows .0) 4294967295 ⌝ }
+    {
+        AreaSb(cut(wide(self.0) * wide(rows.0)))
+    }
+
+    // The least logarithm by which tiles of at most this size reach `all`.
+    pub fn log2_to(self, all: FrameSb) -> u8
+        ensures { λ r. ⌜ r ≡ tileLog2 (self .0) (all .0) ⌝ }
+    {
+        tile_log2(self.0, all.0)
+    }
+
+    // The largest logarithm, for at most 64 tiles.
+    pub fn max_log2(self) -> u8
+        ensures { λ r. ⌜ r ≡ tileLog2 1 (min (self .0) 64) ⌝ }
+    {
+        tile_log2(1, umin(self.0, 64))
+    }
+
+    // Does the last of 2 ^ log2 even tiles begin inside?
+    pub fn fits_uniform(self, log2: u8) -> bool
+        ensures { λ r. ⌜ r ≡ fitsUniform (log2 % 32) (self .0) ⌝ }
+    {
+        let tiles = wide(power(log2));
+        let n = wide(self.0);
+        let tile = (n + (tiles - 1)) / tiles;
+        tile * (tiles - 1) < n
+    }
+}
+
+impl AreaSb {
+    // The least logarithm by which tiles of at most this area cover `all`.
+    pub fn log2_to(self, all: AreaSb) -> u8
+        ensures { λ r. ⌜ r ≡ tileLog2 (self .0) (all .0) ⌝ }
+    {
+        tile_log2(self.0, all.0)
+    }
+
+    // The most superblocks that a row may have, beside a column of `widest_tile`, by the area divided by 2 ^ log2; 1 at least.
+    pub fn max_height(self, log2: u8, widest_tile: FrameSb) -> FrameSb
+        ensures { λ r. ⌜ r .0 ≡ max 1 (self .0 / 2 ^ (log2 % 32) / «widest_tile» .0) ⌝ }
+    {
+        if widest_tile.0 == 0 {
+            return FrameSb(1);
+        }
+        FrameSb(umax(1, self.0 / power(log2) / widest_tile.0))
+    }
+}
+
+impl TileCount {
+    // Is there a tile with this number? The first has number 0.
+    pub fn has(self, i: u8) -> bool
+        ensures { λ r. ⌜ r ≡ ltb i (self .0) ⌝ }
+    {
+        (i as u32) < self.0
+    }
+
+    // As a record has it.
+    pub fn number(self) -> u8
+        ensures { λ r. ⌜ r ≡ self .0 % 256 ⌝ }
+    {
+        (self.0 % 256) as u8
+    }
+}
+
+impl SeqStarts {
+    pub fn of(starts: [u16; 65]) -> SeqStarts
+        ensures { λ r. ⌜ r .0 ≡ starts ⌝ }
+    {
+        SeqStarts(starts)
+    }
+
+    // The start of tile i.
+    pub fn start(self, i: u8) -> SeqSb
+        ensures { λ r. ⌜ r .0 ≡ getD (self .0) (min i 64) 0 ⌝ }
+    {
+        let at = entry(i);
+        SeqSb(self.0[at] as u32)
+    }
+
+    // As a record has them.
+    pub fn entries(self) -> [u16; 65]
+        ensures { λ r. ⌜ r ≡ self .0 ⌝ }
+    {
+        self.0
+    }
+}
+
+// The start of tile i is stored, or the closing one.
+pub fn put(starts: &mut [u16; 65], i: u8, start: FrameSb)
+    ensures { λ r. ⌜ now (starts .exit) ≡ set (now (starts .entry)) (min i 64) (start .0 % 65536) ⌝ }
+{
+    let at = entry(i);
+    starts[at] = (start.0 % 65536) as u16;
+}
+
+// One size, where `rest` superblocks remain.
+pub fn read_size(s: &[u8], p: Place, rest: FrameSb, limit: FrameSb) -> TileSize
+    ensures { λ r. ⌜ (r .size .0 ≡ getUniform (now (s .entry)) p (min (rest .0) (limit .0)) .value + 1)
+        × (r .next ≡ getUniform (now (s .entry)) p (min (rest .0) (limit .0)) .next) ⌝ }
+{
+    let g = get_uniform(s, p, umin(rest.0, limit.0));
+    let next = g.next;
+    TileSize {
+        size: FrameSb(g.value + 1),
+        // Field by field: a place copied whole is loaded before its parts have left the store buffer.
+        next: Place {
+            byte: next.byte,
+            used: next.used,
+            error: next.error,
+        },
+    }
+}
+
+// The even split of fsb full superblocks, of ssb in all, by a logarithm below 32.
+pub fn even_split(fsb: SeqSb, ssb: SeqSb, log2: u8) -> Split
+    ensures { λ r. ⌜ (r .tile .0 ≡ base (fsb .0) (log2 % 32)) × (r .tiles .0 ≡ count (fsb .0) (ssb .0) (log2 % 32)) × (r .extra .0 ≡ larger (fsb .0) (ssb .0) (log2 % 32)) ⌝ }
+{
+    let max_tiles = power(log2);
+    let tile = SeqSb(fsb.0 / max_tiles);
+    if tile.0 == 0 {
+        return Split {
+            tile,
+            extra: TileCount(ssb.0),
+            tiles: TileCount(ssb.0),
+        };
+    }
+    Split {
+        tile,
+        extra: TileCount(fsb.0 % max_tiles),
+        tiles: TileCount(max_tiles),
+    }
+}
