@@ -1,2 +1,3 @@
+pub mod Coded
 pub mod Walk
 pub mod Rules

@@ -2,18 +2,15 @@
 use mathlib.Core.Path.{_≡_, refl, sym, _∙_, ap}
 use mathlib.Core.Bool.{true, false}
 use mathlib.Core.List.{List}
-use Prim.Native.Nat.{ℕ, _-_, _≤_}
-use native.Mathlib.Omega.{arith}
+use Prim.Native.Nat.{ℕ, _-_}
 use Rattle.answers.specs.declared.Answer.the-variants.{Accepted}
 use Rattle.getbits.specs.Chain.{then}
 use Rattle.getbits.specs.declared.Place.{Place}
 use Rattle.getbits.proofs.Chain.{through, taken, left}
 use Rattle.tile_layout.specs.declared.TileArgs.{TileArgs}
 use Rattle.tile_layout.specs.declared.TileInfo.{TileInfo}
-use Rattle.tile_layout.specs.Limits.{inDomain, sbw, sbh, widthLimit}
-use Rattle.tile_layout.specs.Layout.{readSizes, widest, over, readLog2, uniformCount, uniformEdges, uniformInfo, uniformLayout, rowLimit, invalidTileInfo, readCols, readRows, nonUniformInfo, nonUniformLayout}
-use Rattle.tile_layout.proofs.Domain.{domain, across, limits}
-use Rattle.tile_layout.proofs.Sized.{sizes-read, some-widest}
+use Rattle.tile_layout.specs.Limits.{sbw, sbh}
+use Rattle.tile_layout.specs.Layout.{readSizes, over, readLog2, uniformCount, uniformEdges, uniformInfo, uniformLayout, rowLimit, invalidTileInfo, readCols, readRows, nonUniformInfo, nonUniformLayout}
 use Rattle.tile_info.specs.declared.uniform.Log2.{Log2}
 use Rattle.tile_info.specs.declared.uniform.Starts.{Starts}
 use Rattle.tile_info.specs.declared.limits.FrameLimits.{FrameLimits}
@@ -59,13 +56,6 @@ module _ (s : List ℕ) (p : Place) (old : TileInfo) {a : TileArgs} {k : FrameLi
   cols : (c : Tiles) → ReadCols c → TilesOf (readCols s p a) (sbw a) (old .«col_start_sb») c
   unfolding readCols
   cols c z = rw (n .across, n .wide) at z
-
-  pub some-col : (c : Tiles) → inDomain a ≡ true → ReadCols c → 1 ≤ c .widest .0
-  unfolding readCols
-  some-col c e z =
-      let d = domain a e in
-      rw (cols c z .wides)
-      (some-widest (sizes-read 64 s p (sbw a) (widthLimit a) (omega (arith, limits a d .some))) (omega arith) (across a d .some))
 
   pub cols-short : (c : Tiles) → ReadCols c → c .short ≡ true → invalidTileInfo old (c .next) ≡ nonUniformLayout s p old a
   unfolding nonUniformLayout

@@ -1,13 +1,14 @@
 -- The loop that reads sizes: what is done, and what is still to be read from here. Assumes nothing.
 use mathlib.Core.Path.{_≡_, refl, sym, _∙_, ap}
 use mathlib.Core.List.{List, [], _∷_, _++_, append-assoc, append-nil}
-use Prim.Native.Nat.{ℕ, zero, suc, _+_, _-_, min, max, _≤_, _<_}
+use Prim.Native.Nat.{ℕ, zero, suc, _+_, _-_, _%_, min, max, _≤_, _<_}
 use native.Mathlib.Nat.{add-zero, sub-zero}
 use native.Mathlib.Omega.{arith}
 use lib.ListN.{length, set, length-append}
 use Rattle.getbits.specs.Chain.{then}
 use Rattle.getbits.specs.declared.Place.{Place}
 use Rattle.codes.specs.Codes.{getUniform}
+use Rattle.codes.proofs.Callers.{uniform-lt}
 use Rattle.tile_layout.specs.Layout as layout
 use Rattle.tile_layout.specs.Layout.{readSizes, startsFrom, sum, widest, over}
 use Rattle.tile_layout.proofs.Laws.{grow}
@@ -81,13 +82,19 @@ module _ (s : List ℕ) (total limit : ℕ) (start : Place) (old : List ℕ) whe
       })
 
   -- one size more, z, as the program has it
-  pub walk-next : {at : List ℕ} {p q : Place} {x n wide z v y r : ℕ} → Walked at p x n wide → x < total → n < 64 → n < length old
-      → r ≡ total - x → z ≡ getUniform s p (min r limit) .value + 1 → q ≡ getUniform s p (min r limit) .next → z ≤ r → v ≡ x → y ≡ max wide z
-      → Walked (set at n v) q (x + z) (n + 1) y
-  walk-next {at} {p} {q} {x} {n} {wide} {z} {v} {y} {r} w h k l er ez eq zr ev ey =
+  pub walk-next : {at then-at : List ℕ} {p q : Place} {x n wide z y v r : ℕ} → Walked at p x n wide → x < total → n < 64 → n < length old → total ≤ 1024 → 1 ≤ limit
+      → r ≡ total - x → z ≡ getUniform s p (min r limit) .value + 1 → q ≡ getUniform s p (min r limit) .next
+      → then-at ≡ set at (min n 64) (x % 65536) → y ≡ max wide z → v ≡ (x + z) % 4294967296
+      → Walked then-at q v (n + 1) y
+  walk-next {at} {then-at} {p} {q} {x} {n} {wide} {z} {y} {v} {r} w h k l low some er ez eq ea ey ev =
       let f : 64 - n ≡ suc (64 - (n + 1)) = omega arith in
+      let zr : z ≤ r = omega (arith, uniform-lt s p (min r limit) (omega arith)) in
       let j : r - z ≡ total - (x + z) = omega arith in
-      record {
+      let i : min n 64 ≡ n = omega arith in
+      let g : x % 65536 ≡ 0 + sum (w .done) = omega (arith, w .summed, w .inside) in
+      let e : v ≡ x + z = omega (arith, w .inside) in
+      rw e
+      (record {
         done = w .done ++ (z ∷ []);
         all =
             w .all
@@ -99,13 +106,12 @@ module _ (s : List ℕ) (total limit : ℕ) (start : Place) (old : List ℕ) whe
         summed = omega (arith, w .summed, sum-more (w .done) z);
         wides = omega (arith, w .wides, widest-more (w .done) z);
         stored =
-            let g : v ≡ 0 + sum (w .done) = omega (arith, w .summed) in
-            ap (λ (t : List ℕ). set t n v) (w .stored)
-            ∙ grow (startsFrom 0 (w .done)) old n v (length-starts (w .done) 0 ∙ sym (w .tiles)) l
+            ea
+            ∙ rw (i, w .stored) (grow (startsFrom 0 (w .done)) old n (x % 65536) (length-starts (w .done) 0 ∙ sym (w .tiles)) l)
             ∙ ap (λ (t : List ℕ). over t old) (ap (λ (m : ℕ). startsFrom 0 (w .done) ++ (m ∷ [])) g ∙ sym (starts-more (w .done) 0 z));
         inside = omega arith;
         few = omega arith;
-      }
+      })
 
   -- the loop is left: what was done is what is read
   ended : (r : Sizes) (w : Walked (r .starts) (r .next) (r .sum .0) (r .tiles) (r .widest .0))

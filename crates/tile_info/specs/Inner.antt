@@ -8,12 +8,19 @@ use Rattle.tile_layout.specs.declared.TileArgs.{TileArgs}
 use Rattle.tile_layout.specs.Limits.{sbw, sbh, widthLimit, tileLog2, minLog2Cols, maxLog2Cols, maxLog2Rows, minLog2Tiles}
 use Rattle.tile_layout.specs.Layout as layout
 use Rattle.tile_layout.specs.Layout.{sum, widest, startsFrom, nonUniformEdges, over}
+use Rattle.superblocks.specs.declared.Pair.{Pair}
 use Rattle.tile_info.specs.declared.limits.FrameLimits.{FrameLimits}
 use Rattle.tile_info.specs.declared.nonuniform.Sizes.{Sizes}
 use Rattle.tile_info.specs.declared.nonuniform.Tiles.{Tiles}
 
+-- the pair of the arguments' codes
+pub record Coded (a : TileArgs) (p : Pair) : Type 0 where
+  pub of-frame : p .«frame_code» ≡ a .«frame_code»
+  pub of-seq : p .«seq_code» ≡ a .«seq_code»
+
 -- k has the numbers of the arguments a
 pub record Known (a : TileArgs) (k : FrameLimits) : Type 0 where
+  pub coded : Coded a (k .pair)
   pub across : k .sbw .0 ≡ sbw a
   pub down : k .sbh .0 ≡ sbh a
   pub wide : k .«max_tile_width_sb» .0 ≡ widthLimit a

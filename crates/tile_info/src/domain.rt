@@ -1,6 +1,7 @@
 // The arguments, and their domain.
 ghost use mathlib.Core.Path.{_≡_};
-ghost use Rattle.tile_layout.specs.Limits.{argsOf, isSize, isPair, inDomain};
+ghost use Rattle.tile_layout.specs.Limits.{argsOf, isPair, inDomain};
+use superblocks::is_size;
 use tile_layout::TileArgs;
 use tile_layout::not_below_0;
 
@@ -24,12 +25,6 @@ pub fn tile_args(
         level,
         tier,
     }
-}
-
-fn is_size(n: u32) -> bool
-    ensures { λ r. ⌜ r ≡ isSize n ⌝ }
-{
-    (1 <= n) & (n <= 65536)
 }
 
 fn is_pair(f: u8, q: u8, m: u32) -> bool

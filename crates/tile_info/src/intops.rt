@@ -1,15 +1,9 @@
 // Small helpers on numbers.
 ghost use mathlib.Core.Path.{_≡_};
-ghost use Prim.Native.Nat.{_-_, _^_, _≤_, max, min};
+ghost use Prim.Native.Nat.{_-_, _≤_, max};
 ghost use Rattle.getbits.specs.Chain.{pick};
 
-pub fn umin(a: u32, b: u32) -> u32
-    ensures { λ r. ⌜ r ≡ min a b ⌝ }
-{
-    if a < b { a } else { b }
-}
-
-pub fn umax(a: u32, b: u32) -> u32
+pub fn umax(a: u8, b: u8) -> u8
     ensures { λ r. ⌜ r ≡ max a b ⌝ }
 {
     if a < b { b } else { a }
@@ -26,12 +20,4 @@ pub fn one_if(t: bool) -> u8
     ensures { λ r. ⌜ (r ≡ pick t 1 0) × (r ≤ 1) ⌝ }
 {
     if t { 1 } else { 0 }
-}
-
-// 2 ^ n
-pub fn power(n: u8) -> u32
-    requires { ⌜ n ≤ 13 ⌝ }
-    ensures { λ r. ⌜ (r ≡ 2 ^ n) × (1 ≤ r) × (r ≤ 8192) ⌝ }
-{
-    1 << n
 }

@@ -17,7 +17,6 @@ mod domain;
 mod intops;
 mod limits;
 mod nonuniform;
-mod sb;
 mod uniform;
 
 use domain::in_domain;
@@ -41,8 +40,8 @@ fn uniform_layout(s: &[u8], p: Place, thdr: TileInfo, a: TileArgs, k: FrameLimit
     let r = read_log2(s, c.next, min_log2_rows, k.max_log2_rows);
     let old_cols = thdr.col_start_sb;
     let old_rows = thdr.row_start_sb;
-    let cols = uniform_starts(old_cols, a, a.width, k.sbw, c.log2);
-    let rows = uniform_starts(old_rows, a, a.height, k.sbh, r.log2);
+    let cols = uniform_starts(old_cols, a, k.pair, a.width, k.sbw, c.log2);
+    let rows = uniform_starts(old_rows, a, k.pair, a.height, k.sbh, r.log2);
     let col_start_sb = cols.starts;
     let row_start_sb = rows.starts;
     let info = TileInfo {

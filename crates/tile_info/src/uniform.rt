@@ -4,17 +4,17 @@ ghost use mathlib.Core.Bool.{true};
 ghost use mathlib.Core.List.{[], _∷_, _++_};
 ghost use Prim.Native.Nat.{_+_, _*_, _≤_, min};
 ghost use Rattle.tile_layout.specs.Limits.{superblocks, inDomain};
-ghost use Rattle.tile_layout.specs.Layout.{tabulate, over, readLog2, fullCount, uniformCount, uniformEdges};
-use super::intops::umax;
-use super::limits::sb_size;
-use super::sb::FrameSb;
-use super::sb::SeqSb;
-use super::sb::Split;
-use super::sb::even_split;
-use super::sb::seq_count;
-use super::sb::seq_sb;
+ghost use Rattle.tile_layout.specs.Layout.{tabulate, over, readLog2, uniformCount, uniformEdges};
+ghost use Rattle.superblocks.specs.Counts.{multiplierOf};
+ghost use Rattle.tile_info.specs.Inner.{Coded};
 use getbits::Place;
 use getbits::get_bit;
+use superblocks::FrameSb;
+use superblocks::Pair;
+use superblocks::SeqSb;
+use superblocks::Split;
+use superblocks::even_split;
+use superblocks::put;
 use tile_layout::TileArgs;
 
 pub struct Log2 {
@@ -46,44 +46,38 @@ pub struct Starts {
 }
 
 // The starts of an even split, and the closing entry.
-fn fill(starts: [u16; 65], sbmul: u32, split: Split, end: FrameSb) -> [u16; 65]
-    requires { ⌜ (split .tiles ≤ 64) × (sbmul ≤ 2) × (split .tile .0 ≤ 1024) × (split .tile .0 * split .tiles + split .extra ≤ 1024) × (end .0 ≤ 1024) ⌝ }
-    ensures { λ r. ⌜ r ≡ over (tabulate (λ i. sbmul * (split .tile .0 * i + min i (split .extra))) 0 (split .tiles) ++ (end .0 ∷ [])) starts ⌝ }
+fn fill(starts: [u16; 65], pair: Pair, split: Split, end: FrameSb) -> [u16; 65]
+    requires { ⌜ (split .tiles .0 ≤ 64) × (split .tile .0 * split .tiles .0 + split .extra .0 ≤ 1024) × (end .0 ≤ 1024) ⌝ }
+    ensures { λ r. ⌜ r ≡ over (tabulate (λ i. multiplierOf (pair .«frame_code») (pair .«seq_code») * (split .tile .0 * i + min i (split .extra .0))) 0 (split .tiles .0) ++ (end .0 ∷ [])) starts ⌝ }
 {
     let mut at = starts;
-    let mut sbx = seq_sb(0);
-    let mut i: u32 = 0;
-    while i < split.tiles {
-        at[i as usize] = sbx.in_frame(sbmul).start();
+    let mut sbx = SeqSb::none();
+    let mut i: u8 = 0;
+    while split.tiles.has(i) {
+        put(&mut at, i, sbx.in_frame(pair));
         sbx = sbx.plus(split.tile);
-        if i < split.extra {
-            sbx = sbx.plus(seq_sb(1));
+        if split.extra.has(i) {
+            sbx = sbx.plus(SeqSb::one());
         }
         i += 1;
     }
-    at[i as usize] = end.start();
+    put(&mut at, i, end);
     at
 }
 
-// The sequence's superblocks along n samples; a last one that lacks 8 samples or more isn't counted.
-fn full_count(a: TileArgs, n: u32) -> SeqSb
-    requires { ⌜ inDomain a ≡ true ⌝ }
-    requires { ⌜ n ≤ 65536 ⌝ }
-    ensures { λ r. ⌜ r .0 ≡ fullCount a n ⌝ }
-{
-    seq_sb(umax(1, (n + 7) / sb_size(a.seq_code)))
-}
-
 // The columns or rows along n samples, which are `end` superblocks of the frame.
-pub fn uniform_starts(starts: [u16; 65], a: TileArgs, n: u32, end: FrameSb, log2: u8) -> Starts
+pub fn uniform_starts(starts: [u16; 65], a: TileArgs, pair: Pair, n: u32, end: FrameSb, log2: u8) -> Starts
     requires { ⌜ inDomain a ≡ true ⌝ }
+    requires { ⌜ Coded a pair ⌝ }
     requires { ⌜ (1 ≤ n) × (n ≤ 65536) × (end .0 ≡ superblocks n (a .«frame_code»)) × (log2 ≤ 6) ⌝ }
     ensures { λ r. ⌜ (r .tiles ≡ uniformCount a n log2) × (r .starts ≡ over (uniformEdges a n log2) starts) ⌝ }
 {
-    let fsb = full_count(a, n);
-    let ssb = seq_count(n, a.seq_code);
+    let fsb = pair.full_count(n);
+    let ssb = pair.seq_count(n);
     let split = even_split(fsb, ssb, log2);
-    let at = fill(starts, a.multiplier, split, end);
-    let tiles = split.tiles as u8;
-    Starts { tiles, starts: at }
+    let at = fill(starts, pair, split, end);
+    Starts {
+        tiles: split.tiles.number(),
+        starts: at,
+    }
 }

@@ -2,7 +2,7 @@
 use mathlib.Core.Path.{_∙_}
 use native.Mathlib.Omega.{arith}
 use borrow.Author.Needs.{needs}
-use Rattle.tile_info.proofs.Rules.{cols-short, some-col, rows-short, sized-made}
+use Rattle.tile_info.proofs.Rules.{cols-short, rows-short, sized-made}
 use Rattle.tile_layout.proofs.Domain.{domain, across, down, limits}
 use Rattle.tile_layout.specs.Layout.{rowLimit}
 use Rattle.tile_info.proofs.nonuniform_layout.Statement.{statement}
@@ -22,7 +22,7 @@ returns c =
 max-tile-height-sb-requires : tie.Need-max-tile-height-sb-requires
 max-tile-height-sb-requires c κs =
     let s = c .before .before .before .before .before in
-    (s .pre .0, (s .pre .1, some-col (s .args .s .now) (s .args .p) (s .args .thdr) (s .pre .1) (c .before .before .read-tiles .result) (s .pre .0) (c .before .before .read-tiles .ensures)))
+    (s .pre .0, s .pre .1)
 
 read-tiles-requires-2 : tie.Need-read-tiles-requires-2
 unfolding rowLimit

@@ -28,13 +28,13 @@ uniform-starts-requires : tie.Need-uniform-starts-requires
 uniform-starts-requires c κs =
     let s = c .before .before .before .before .before .before in
     let d = domain (s .args .a) (s .pre .0) in
-    (s .pre .0, (d .some-width, d .most-width, s .pre .1 .across, c .before .before .before .before .read-log2 .ensures .2))
+    (s .pre .0, (s .pre .1 .coded, (d .some-width, d .most-width, s .pre .1 .across, c .before .before .before .before .read-log2 .ensures .2)))
 
 uniform-starts-requires-2 : tie.Need-uniform-starts-requires-2
 uniform-starts-requires-2 c κs =
     let s = c .before .before .before .before .before .before .before in
     let d = domain (s .args .a) (s .pre .0) in
-    (s .pre .0, (d .some-height, d .most-height, s .pre .1 .down, c .before .before .before .read-log22 .ensures .2))
+    (s .pre .0, (s .pre .1 .coded, (d .some-height, d .most-height, s .pre .1 .down, c .before .before .before .read-log22 .ensures .2)))
 
 returns : tie.Need-returns
 returns c =

@@ -1,26 +1,30 @@
 -- `tile_info::limits::max_tile_width_sb` meets its contract. Assumes nothing.
-use borrow.Author.Needs.{needs}
-use Rattle.tile_layout.proofs.Domain.{domain, low-code}
+use mathlib.Core.Path.{_≡_, refl, _∙_}
+use Prim.Native.Nat.{_+_, _%_, _≤_}
+use native.Mathlib.Omega.{arith}
+use lib.Pow.{pow-mono}
 use Rattle.tile_layout.specs.Limits.{widthLimit}
+use Rattle.tile_info.proofs.Coded.{frame-code}
+use borrow.Author.Needs.{needs}
 use Rattle.tile_info.proofs.limits.max_tile_width_sb.Statement.{statement}
 use Rattle.tile_info.proofs.limits.max_tile_width_sb.Tie as tie
 
-sb-size-requires : tie.Need-sb-size-requires
-sb-size-requires c κs = low-code _ (domain _ (c .before .before .before .before .before .before .pre))
+low : (c : tie.After-power) → c .power .result ≤ 4
+low c =
+    let x = c .before in
+    rw (c .power .ensures .0) (pow-mono {j = 2} (omega (arith, x .one-if2 .ensures .1, x .before .before .before .one-if .ensures .1)))
+
+mul-width-limit : tie.Need-mul-width-limit
+mul-width-limit c = omega (arith, low c)
 
 returns : tie.Need-returns
 unfolding widthLimit
-returns c = cc
+returns c =
+    let x = c .before .before in
+    let y = x .before .before .before in
+    let s = y .before .before in
+    let e : (y .one-if .result + x .one-if2 .result) % 32 ≡ y .one-if .result + x .one-if2 .result = omega (arith, x .one-if2 .ensures .1, y .one-if .ensures .1) in
+    c .width-limit .ensures ∙ rw (c .before .power .ensures .0, e, y .one-if .ensures .0, x .one-if2 .ensures .0, frame-code (s .pre .0) (s .pre .1)) refl
 
 pub max-tile-width-sb-spec : {M : Type 1} → statement M
-max-tile-width-sb-spec =
-    tie.close
-    (tie.spec
-    (λ c κs. search needs)
-    (λ c κs. search needs)
-    (λ c. search needs)
-    (λ c κs. search needs)
-    (λ c. search needs)
-    sb-size-requires
-    (λ c. search needs)
-    returns)
+max-tile-width-sb-spec = tie.close (tie.spec (λ c κs. search needs) (λ c κs. search needs) (λ c. search needs) (λ c κs. search needs) mul-width-limit (λ c κs. search needs) returns)

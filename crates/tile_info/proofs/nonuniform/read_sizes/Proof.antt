@@ -4,9 +4,9 @@ use mathlib.Core.Path.{_≡_, sym, _∙_}
 use Prim.Native.Nat.{_-_, _<_}
 use native.Mathlib.Omega.{arith}
 use borrow.Author.Tests.{ltb-true, ltb-false}
-use borrow.Author.Needs.{needs}
 use lib.ListN.{length}
 use Rattle.tile_info.proofs.Walk.{Walked, walk-start, walk-next, all-done, all-used}
+use borrow.Author.Needs.{needs}
 use Rattle.tile_info.proofs.nonuniform.read_sizes.Statement.{statement}
 use Rattle.tile_info.proofs.nonuniform.read_sizes.Tie as tie
 
@@ -24,27 +24,7 @@ less : (c : tie.After-below Inv-loop μ-loop) → c .below .result ≡ true → 
 less c h = ltb-true _ _ (sym (c .below .ensures) ∙ h)
 
 loop-holds : tie.Need-loop-holds Inv-loop μ-loop
-loop-holds c = walk-start _ _ _ _ _ _ _ (c .before .frame-sb .ensures) (c .frame-sb2 .ensures)
-
-start-requires : tie.Need-start-requires Inv-loop μ-loop
-start-requires c κs = omega (arith, c .before .before .before .loop .inv .inside, c .before .before .before .before .before .before .before .pre .0)
-
-mul-at : tie.Need-mul-at Inv-loop μ-loop
-mul-at c = omega (arith, ltb-true)
-
-array-write-at : tie.Need-array-write-at Inv-loop μ-loop
-array-write-at c = omega (arith, ltb-true)
-
-minus-requires : tie.Need-minus-requires Inv-loop μ-loop
-minus-requires c κs = c .before .before .before .before .loop .inv .inside
-
-read-size-requires : tie.Need-read-size-requires Inv-loop μ-loop
-read-size-requires c κs =
-    let x = less (c .before .before .before .before) (c .before .before .before .if1 .taken) in
-    omega (arith, c .minus .ensures, x, c .before .before .before .before .before .before .before .before .before .pre)
-
-plus-requires : tie.Need-plus-requires Inv-loop μ-loop
-plus-requires c κs = omega (arith, c .before .before .read-size .ensures .2, c .before .before .before .minus .ensures, c .before .before .before .before .before .before .before .before .loop .inv .inside, c .before .before .before .before .before .before .before .before .before .before .before .before .pre .0)
+loop-holds c = walk-start _ _ _ _ _ _ _ (c .before .none .ensures) (c .none2 .ensures)
 
 add-tiles : tie.Need-add-tiles Inv-loop μ-loop
 add-tiles c = omega (arith, ltb-true)
@@ -54,13 +34,16 @@ loop-less c = omega (arith, ltb-true)
 
 loop-again : tie.Need-loop-again Inv-loop μ-loop
 loop-again c =
-    let s = c .before .before .before .before .before .before .before .before .before .before .before .before .before in
-    let l = c .before .before .before .before .before .before .before .before .before .loop in
-    let z = c .before .before .before .read-size .ensures in
-    let x = less (c .before .before .before .before .before .before .before .before) (c .before .before .before .before .before .before .before .if1 .taken) in
+    let r = c .before .before .before in
+    let m = r .before in
+    let p = m .before in
+    let t = p .before .before .before in
+    let b = t .before in
+    let l = b .before .loop in
+    let s = b .before .before .before .before .before in
     let n : l .tiles < 64 = omega (arith, ltb-true) in
-    rw (c .plus .ensures)
-    (walk-next _ _ _ _ _ (l .inv) x n (omega (arith, given-length s)) (c .before .before .before .before .minus .ensures) (z .0) (z .1) (z .2) (c .before .before .before .before .before .start .ensures) (c .before .most .ensures))
+    walk-next _ _ _ _ _ (l .inv) (less b (t .if1 .taken)) n (omega (arith, given-length s)) (s .pre .0) (s .pre .1)
+    (m .minus .ensures) (r .read-size .ensures .0) (r .read-size .ensures .1) (p .put .ensures) (c .before .most .ensures) (c .plus .ensures)
 
 returns : tie.Need-returns Inv-loop μ-loop
 returns c = all-used _ _ _ _ _ _ (c .before .before .before .loop .inv) (omega (arith, ltb-false))
@@ -69,25 +52,4 @@ returns-2 : tie.Need-returns-2 Inv-loop μ-loop
 returns-2 c = all-done _ _ _ _ _ _ (c .before .before .loop .inv) (ltb-false _ _ (sym (c .before .below .ensures) ∙ c .if1 .left))
 
 pub read-sizes-spec : {M : Type 1} → statement M
-read-sizes-spec =
-    tie.close
-    (tie.spec
-    Inv-loop
-    μ-loop
-    (λ c κs. search needs)
-    (λ c κs. search needs)
-    loop-holds
-    (λ c κs. search needs)
-    start-requires
-    (λ c. search needs)
-    mul-at
-    array-write-at
-    minus-requires
-    read-size-requires
-    (λ c κs. search needs)
-    plus-requires
-    add-tiles
-    loop-less
-    loop-again
-    returns
-    returns-2)
+read-sizes-spec = tie.close (tie.spec Inv-loop μ-loop (λ c κs. search needs) (λ c κs. search needs) loop-holds (λ c κs. search needs) (λ c κs. search needs) (λ c κs. search needs) (λ c κs. search needs) (λ c κs. search needs) (λ c κs. search needs) add-tiles loop-less loop-again returns returns-2)

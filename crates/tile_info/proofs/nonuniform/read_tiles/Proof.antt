@@ -1,15 +1,15 @@
 -- `tile_info::nonuniform::read_tiles` meets its contract. Assumes nothing.
 use mathlib.Core.List.{List}
-use mathlib.Core.Path.{_≡_, sym, _∙_, ap, ap₂}
-use Prim.Native.Nat.{ℕ}
+use mathlib.Core.Path.{_≡_, sym, _∙_, ap}
+use Prim.Native.Nat.{ℕ, _%_, min}
 use native.Mathlib.Omega.{arith}
-use borrow.Author.Needs.{needs}
-use lib.ListN.{length, set}
+use lib.ListN.{length}
 use lib.Dec.{ltb}
 use Rattle.tile_layout.specs.Layout.{readSizes, startsFrom}
 use Rattle.tile_layout.proofs.Sized.{length-starts}
 use Rattle.tile_layout.proofs.Laws.{grow}
 use Rattle.tile_layout.specs.Limits.{tileLog2}
+use borrow.Author.Needs.{needs}
 use Rattle.tile_info.proofs.nonuniform.read_tiles.Statement.{statement}
 use Rattle.tile_info.proofs.nonuniform.read_tiles.Tie as tie
 
@@ -18,31 +18,27 @@ given-length s = s .good .1 .1 .0 .1 .0 .1
 
 returns : tie.Need-returns
 returns c =
-    let a = c .before .before .before .before .before .before .before .before .args in
-    let z = c .before .before .before .before .before .before .read-sizes .ensures in
+    let below = c .before .before in
+    let log = below .before in
+    let put = log .before in
+    let read = put .before .before .before in
+    let s = read .before .before in
+    let a = s .args in
+    let z = read .read-sizes .ensures in
+    let n = read .read-sizes .result .tiles in
     let sizes = readSizes 64 (a .s .now) (a .p) (a .total .0) (a .limit .0) .sizes in
-    let n = c .before .before .before .before .before .before .read-sizes .result .tiles in
+    let i : min n 64 ≡ n = omega (arith, z .few) in
+    let v : a .total .0 % 65536 ≡ a .total .0 = omega (arith, s .pre .0) in
     record {
       counted = z .counted;
-      log = c .before .before .before .tile-log2 .ensures ∙ ap (tileLog2 1) (z .counted);
-      left = c .before .before .below .ensures ∙ ap (λ (x : ℕ). ltb x (a .total .0)) (z .summed);
+      log = log .tiles-log2 .ensures ∙ ap (tileLog2 1) (z .counted);
+      left = below .below .ensures ∙ ap (λ (x : ℕ). ltb x (a .total .0)) (z .summed);
       wides = z .wides;
       stands = z .stands;
       stored =
-          ap₂ (λ (t : List ℕ) (v : ℕ). set t n v) (z .stored) (c .before .before .before .before .start .ensures)
-          ∙ grow (startsFrom 0 sizes) (a .starts) n (a .total .0) (length-starts sizes 0 ∙ sym (z .counted)) (omega (arith, z .few, given-length (c .before .before .before .before .before .before .before .before)));
+          put .put .ensures
+          ∙ rw (i, v, z .stored) (grow (startsFrom 0 sizes) (a .starts) n (a .total .0) (length-starts sizes 0 ∙ sym (z .counted)) (omega (arith, z .few, given-length s)));
     }
 
 pub read-tiles-spec : {M : Type 1} → statement M
-read-tiles-spec =
-    tie.close
-    (tie.spec
-    (λ c κs. search needs)
-    (λ c κs. search needs)
-    (λ c. search needs)
-    (λ c. search needs)
-    (λ c. search needs)
-    (λ c. search needs)
-    (λ c κs. search needs)
-    (λ c κs. search needs)
-    returns)
+read-tiles-spec = tie.close (tie.spec (λ c κs. search needs) (λ c κs. search needs) (λ c κs. search needs) (λ c κs. search needs) returns)

@@ -1,129 +1,90 @@
 -- `tile_info::uniform::fill` meets its contract. Assumes nothing.
 use mathlib.Core.Logic.{⊎-elim}
 use mathlib.Core.List.{List, [], _∷_, _++_}
-use mathlib.Core.Path.{_≡_, refl, _∙_, ap, ap₂}
-use Prim.Native.Nat.{ℕ, _+_, _-_, _*_, min, _≤_}
+use mathlib.Core.Path.{_≡_, refl, sym, _∙_, ap, ap₂}
+use Prim.Native.Nat.{ℕ, _+_, _-_, _*_, _%_, min, _≤_, _<_}
 use native.Mathlib.Nat.{mul-le-mul, mul-le-mul-left, mul-suc, mul-zero}
 use native.Mathlib.Omega.{arith}
-use borrow.Author.Needs.{needs}
+use borrow.Author.Tests.{ltb-true, ltb-false}
 use lib.ListN.{length, set}
 use Rattle.tile_layout.proofs.Laws.{times-next, stored, closed}
-use Rattle.tile_info.specs.declared.sb.SeqSb.{SeqSb}
 use Rattle.tile_layout.specs.Layout.{tabulate, over}
+use Rattle.superblocks.specs.declared.SeqSb.{SeqSb}
+use Rattle.superblocks.specs.Counts.{multiplierOf}
+use Rattle.superblocks.proofs.Counts.{low-multiplier}
+use borrow.Author.Needs.{needs}
 use Rattle.tile_info.proofs.uniform.fill.Statement.{statement}
 use Rattle.tile_info.proofs.uniform.fill.Tie as tie
 
 abbrev Inv-loop : tie.InvT-loop
-Inv-loop sbmul split end at₀ sbx₀ i₀ at sbx i =
-    (sbx .0 ≡ split .tile .0 * i + min i (split .extra))
-    × (i ≤ split .tiles)
-    × (at ≡ over (tabulate (λ i. sbmul * (split .tile .0 * i + min i (split .extra))) 0 i) at₀)
+Inv-loop pair split end at₀ sbx₀ i₀ at sbx i =
+    (sbx .0 ≡ split .tile .0 * i + min i (split .extra .0))
+    × (i ≤ split .tiles .0)
+    × (at ≡ over (tabulate (λ i. multiplierOf (pair .«frame_code») (pair .«seq_code») * (split .tile .0 * i + min i (split .extra .0))) 0 i) at₀)
 
 abbrev μ-loop : tie.MeasureT-loop
-μ-loop sbmul split end at₀ sbx₀ i₀ at sbx i = split .tiles - i
+μ-loop pair split end at₀ sbx₀ i₀ at sbx i = split .tiles .0 - i
 
 given-length : (s : tie.Start Inv-loop μ-loop) → length (s .args .starts) ≡ 65
 given-length s = s .good .0 .1 .0 .1
 
--- a tile ends no later than the end
+-- a tile follows
+more : (c : tie.Then1 Inv-loop μ-loop) → c .before .before .loop .i < c .before .before .before .before .args .split .tiles .0
+more c = ltb-true _ _ (sym (c .before .has .ensures) ∙ c .if1 .taken)
+
+-- and ends no later than the end
 ends : (c : tie.Then1 Inv-loop μ-loop) → let t = c .before .before .before .before .args .split .tile .0 in c .before .before .loop .sbx .0 + t ≤ 1024
 ends c =
     let z = c .before .before .before .before .args .split in
     let i = c .before .before .loop .i in
-    omega (arith, mul-le-mul-left (z .tile .0) (c .if1 .taken), mul-suc (z .tile .0) i, c .before .before .before .before .pre .3)
+    omega (arith, mul-le-mul-left (z .tile .0) (more c), mul-suc (z .tile .0) i, c .before .before .before .before .pre .1, c .before .before .loop .inv .0)
+
+-- a start in the frame's superblocks, as it is stored
+fits : (m x : ℕ) → m ≤ 2 → x ≤ 1024 → m * x % 4294967296 % 65536 ≡ m * x
+fits m x h k = omega (arith, mul-le-mul {n₂ = 2} {m₂ = 1024} h k)
 
 loop-holds : tie.Need-loop-holds Inv-loop μ-loop
 unfolding tabulate
-loop-holds c = (omega (arith, c .seq-sb .ensures, mul-zero (c .before .args .split .tile .0)), omega arith, refl)
-
-in-frame-requires : tie.Need-in-frame-requires Inv-loop μ-loop
-in-frame-requires c κs = omega (arith, ends c, c .before .before .before .before .pre .1)
-
-start-requires : tie.Need-start-requires Inv-loop μ-loop
-start-requires c κs =
-    let x : c .before .before .before .loop .sbx .0 ≤ 1024 = omega (arith, ends (c .before)) in
-    omega (arith, c .in-frame .ensures, mul-le-mul {n₂ = 2} {m₂ = 1024} (c .before .before .before .before .before .pre .1) x)
-
-cast-at : tie.Need-cast-at Inv-loop μ-loop
-cast-at c = omega arith
-
-mul-at : tie.Need-mul-at Inv-loop μ-loop
-mul-at c = omega arith
-
-array-write-at : tie.Need-array-write-at Inv-loop μ-loop
-array-write-at c = omega arith
-
-plus-requires : tie.Need-plus-requires Inv-loop μ-loop
-plus-requires c κs = omega (arith, ends (c .before .before), c .before .before .before .before .before .before .pre .2)
-
-plus-requires-2 : tie.Need-plus-requires-2 Inv-loop μ-loop
-plus-requires-2 c κs = omega (arith, c .before .before .before .plus .ensures, c .seq-sb2 .ensures, ends (c .before .before .before .before .before .before))
+loop-holds c = (omega (arith, c .none .ensures, mul-zero (c .before .args .split .tile .0)), omega arith, refl)
 
 add-i : tie.Need-add-i Inv-loop μ-loop
-add-i c = omega arith
+add-i c = let t = c .before .before .before .before .before .before in omega (arith, more t, t .before .before .before .before .pre .0)
 
 loop-less : tie.Need-loop-less Inv-loop μ-loop
-loop-less c = omega arith
+loop-less c = omega (arith, more (c .before .before .before .before .before .before))
 
 loop-again : tie.Need-loop-again Inv-loop μ-loop
 loop-again c =
-    let s = c .before .before .before .before .before .before .before .before .before in
-    let l = c .before .before .before .before .before .before .before .loop in
-    let b = s .args .split .tile .0 in (
+    let plus = c .before .before in
+    let put = plus .before in
+    let in-frame = put .before in
+    let t = in-frame .before .before in
+    let l = t .before .before .loop in
+    let s = t .before .before .before .before in
+    let b = s .args .split .tile .0 in
+    let m = multiplierOf (s .args .pair .«frame_code») (s .args .pair .«seq_code») in
+    let e : min (l .i) 64 ≡ l .i = omega (arith, more t, s .pre .0) in
+    let x : l .sbx .0 ≤ 1024 = omega (arith, ends t) in
+    let v : in-frame .in-frame .result .0 % 65536 ≡ m * l .sbx .0 = rw (in-frame .in-frame .ensures) (fits m (l .sbx .0) (low-multiplier _ _) x) in (
       ⊎-elim
-          (λ w. omega (arith, ap (λ (z : SeqSb). z .0) (w .3), w .2 .ensures, w .1 .ensures, c .before .before .plus .ensures, times-next b (l .i)))
-          (λ w. omega (arith, ap (λ (z : SeqSb). z .0) (w .1), c .before .before .plus .ensures, times-next b (l .i)))
+          (λ w. omega (arith, ap (λ (z : SeqSb). z .0) (w .3), w .2 .ensures, w .1 .ensures, plus .plus .ensures, times-next b (l .i), ends t, l .inv .0, ltb-true (l .i) (s .args .split .extra .0) (sym (c .before .has2 .ensures) ∙ w .0 .taken)))
+          (λ w. omega (arith, ap (λ (z : SeqSb). z .0) (w .1), plus .plus .ensures, times-next b (l .i), ends t, l .inv .0, ltb-false (l .i) (s .args .split .extra .0) (sym (c .before .has2 .ensures) ∙ w .0 .left)))
           (c .if2 .came),
-      omega arith,
-      ap (λ (t : List ℕ). set t (l .i) (c .before .before .before .start .result)) (l .inv .2)
-          ∙ stored _ (s .args .starts) (l .i) (c .before .before .before .start .result)
-          (c .before .before .before .start .ensures ∙ c .before .before .before .before .in-frame .ensures ∙ ap (_*_ (s .args .sbmul)) (l .inv .0))
-          (omega (arith, given-length s)),
+      omega (arith, more t),
+      put .put .ensures
+          ∙ rw (e, v, l .inv .2) (stored _ (s .args .starts) (l .i) (m * l .sbx .0) (ap (_*_ m) (l .inv .0)) (omega (arith, more t, s .pre .0, given-length s))),
     )
-
-start-requires-2 : tie.Need-start-requires-2 Inv-loop μ-loop
-start-requires-2 c κs = omega arith
-
-cast-at-2 : tie.Need-cast-at-2 Inv-loop μ-loop
-cast-at-2 c = omega arith
-
-mul-at-2 : tie.Need-mul-at-2 Inv-loop μ-loop
-mul-at-2 c = omega arith
-
-array-write-at-2 : tie.Need-array-write-at-2 Inv-loop μ-loop
-array-write-at-2 c = omega arith
 
 returns : tie.Need-returns Inv-loop μ-loop
 returns c =
-    let s = c .before .before .before .before .before in
-    let l = c .before .before .before .loop in
-    let q : l .i ≡ s .args .split .tiles = omega arith in
-    ap (λ (t : List ℕ). set t (l .i) (c .start2 .result)) (l .inv .2)
-    ∙ closed _ (s .args .starts) (l .i) (c .start2 .result) (omega (arith, given-length s))
-    ∙ ap₂ (λ (n v : ℕ). over (tabulate (λ i. s .args .sbmul * (s .args .split .tile .0 * i + min i (s .args .split .extra))) 0 n ++ (v ∷ [])) (s .args .starts))
-    q (c .start2 .ensures)
+    let e = c .before .before in
+    let l = e .before .before .loop in
+    let s = e .before .before .before .before in
+    let q : l .i ≡ s .args .split .tiles .0 = omega (arith, l .inv .1, ltb-false (l .i) (s .args .split .tiles .0) (sym (e .before .has .ensures) ∙ e .if1 .left)) in
+    let i : min (l .i) 64 ≡ l .i = omega (arith, s .pre .0) in
+    let v : s .args .end .0 % 65536 ≡ s .args .end .0 = omega (arith, s .pre .2) in
+    c .put2 .ensures
+    ∙ rw (i, v, l .inv .2, ← q) (closed _ (s .args .starts) (l .i) (s .args .end .0) (omega (arith, s .pre .0, given-length s)))
 
 pub fill-spec : {M : Type 1} → statement M
-fill-spec =
-    tie.close
-    (tie.spec
-    Inv-loop
-    μ-loop
-    (λ c κs. search needs)
-    loop-holds
-    in-frame-requires
-    start-requires
-    cast-at
-    mul-at
-    array-write-at
-    plus-requires
-    (λ c κs. search needs)
-    plus-requires-2
-    add-i
-    loop-less
-    loop-again
-    start-requires-2
-    cast-at-2
-    mul-at-2
-    array-write-at-2
-    returns)
+fill-spec = tie.close (tie.spec Inv-loop μ-loop (λ c κs. search needs) loop-holds (λ c κs. search needs) (λ c κs. search needs) (λ c κs. search needs) (λ c κs. search needs) (λ c κs. search needs) (λ c κs. search needs) (λ c κs. search needs) add-i loop-less loop-again (λ c κs. search needs) returns)

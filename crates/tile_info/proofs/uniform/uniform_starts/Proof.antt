@@ -1,14 +1,15 @@
 -- `tile_info::uniform::uniform_starts` meets its contract. Assumes nothing.
 use mathlib.Core.Path.{_≡_, _∙_, ap, ap₂}
-use Prim.Native.Nat.{ℕ, _*_, _≤_}
+use Prim.Native.Nat.{ℕ, _*_, _%_, _≤_}
 use native.Mathlib.Nat.{le-mul-of-pos-right}
 use native.Mathlib.Omega.{arith}
-use borrow.Author.Needs.{needs}
 use lib.Pow.{pow-pos}
 use Rattle.tile_layout.proofs.Even.{few-tiles, base-le, holds}
-use Rattle.tile_layout.proofs.Domain.{Along, domain, along, low-seq-code, low-multiplier}
+use Rattle.tile_layout.proofs.Domain.{Along, domain, along}
 use Rattle.tile_layout.specs.Layout.{fullCount, totalCount, base, count, larger, startAt}
 use Rattle.tile_layout.specs.Limits.{superblocks}
+use Rattle.tile_info.proofs.Coded.{seq-code, multiplied}
+use borrow.Author.Needs.{needs}
 use Rattle.tile_info.proofs.uniform.uniform_starts.Statement.{statement}
 use Rattle.tile_info.proofs.uniform.uniform_starts.Tie as tie
 
@@ -19,25 +20,24 @@ abbrev T : tie.Start → ℕ
 T s = totalCount (s .args .a) (s .args .n)
 
 al : (s : tie.Start) → Along (s .args .a .«frame_code») (s .args .a .multiplier) (superblocks (s .args .n) (s .args .a .«frame_code»)) (F s) (T s)
-al s = along (s .args .a) (domain _ (s .pre .0)) (s .args .n) (s .pre .1 .0) (s .pre .1 .1)
+al s = let n = s .pre .1 .1 in along (s .args .a) (domain _ (s .pre .0)) (s .args .n) (n .0) (n .1)
 
 few : (s : tie.Start) → count (F s) (T s) (s .args .log2) ≤ 64
 few s =
     let x = al s in
-    few-tiles (F s) (T s) (s .args .log2) (T s) (x .some-full) (x .full-le) (x .le-full) (omega (arith, x .some-full, x .full-le)) (le-mul-of-pos-right (T s) (pow-pos (s .args .log2))) (s .pre .1 .3)
+    few-tiles (F s) (T s) (s .args .log2) (T s) (x .some-full) (x .full-le) (x .le-full) (omega (arith, x .some-full, x .full-le)) (le-mul-of-pos-right (T s) (pow-pos (s .args .log2))) (s .pre .1 .1 .3)
 
 -- the split is the definition's
 split : (c : tie.After-even-split) → let s = c .before .before .before in let r = c .even-split .result in
-    (r .tile .0 ≡ base (F s) (s .args .log2)) × (r .tiles ≡ count (F s) (T s) (s .args .log2)) × (r .extra ≡ larger (F s) (T s) (s .args .log2))
+    (r .tile .0 ≡ base (F s) (s .args .log2)) × (r .tiles .0 ≡ count (F s) (T s) (s .args .log2)) × (r .extra .0 ≡ larger (F s) (T s) (s .args .log2))
+unfolding fullCount
 split c =
-    let l = c .before .before .before .args .log2 in
-    let f = c .before .before .full-count .ensures in
-    let t = c .before .seq-count .ensures in
-    let e = c .even-split .ensures in
-    (e .0 ∙ ap (λ (x : ℕ). base x l) f, e .1 ∙ ap₂ (λ (x y : ℕ). count x y l) f t, e .2 ∙ ap₂ (λ (x y : ℕ). larger x y l) f t)
-
-seq-count-requires : tie.Need-seq-count-requires
-seq-count-requires c κs = (low-seq-code _ (domain _ (c .before .pre .0)), c .before .pre .1 .1)
+    let s = c .before .before .before in
+    let code = seq-code (s .pre .0) (s .pre .1 .0) in
+    let l : s .args .log2 % 32 ≡ s .args .log2 = omega (arith, s .pre .1 .1 .3) in
+    let f = rw code at (c .before .before .full-count .ensures) in
+    let t = rw code at (c .before .seq-count .ensures) in
+    rw (l, f, t) at (c .even-split .ensures)
 
 fill-requires : tie.Need-fill-requires
 fill-requires c κs =
@@ -45,29 +45,17 @@ fill-requires c κs =
     let al = al s in
     let e = split c in (
       omega (arith, e .1, few s),
-      low-multiplier _ (domain _ (s .pre .0)),
-      omega (arith, e .0, base-le (F s) (s .args .log2), al .full-le, al .most-seq),
       omega (arith, e .2, holds (F s) (T s) (s .args .log2) (al .full-le), al .most-seq, ap₂ _*_ (e .0) (e .1)),
-      omega (arith, s .pre .1 .2, al .most-all),
+      omega (arith, s .pre .1 .1 .2, al .most-all),
     )
-
-cast-tiles : tie.Need-cast-tiles
-cast-tiles c = omega (arith, split (c .before .before) .1, few (c .before .before .before .before .before))
 
 returns : tie.Need-returns
 unfolding startAt
 returns c =
-    let s = c .before .before .before .before .before in
-    let e = split (c .before .before) in
-    (e .1, c .before .fill .ensures ∙ simp (e .0, e .1, e .2, s .pre .1 .2))
+    let k = c .before .before in
+    let s = k .before .before .before in
+    let e = split k in
+    (omega (arith, c .number .ensures, e .1, few s), c .before .fill .ensures ∙ simp (e .0, e .1, e .2, s .pre .1 .1 .2, multiplied (s .pre .0) (s .pre .1 .0)))
 
 pub uniform-starts-spec : {M : Type 1} → statement M
-uniform-starts-spec =
-    tie.close
-    (tie.spec
-    (λ c κs. search needs)
-    seq-count-requires
-    (λ c κs. search needs)
-    fill-requires
-    cast-tiles
-    returns)
+uniform-starts-spec = tie.close (tie.spec (λ c κs. search needs) (λ c κs. search needs) (λ c κs. search needs) fill-requires (λ c κs. search needs) returns)
