@@ -11,7 +11,7 @@ use Rattle.tile_layout.specs.Demand3.{Demand3}
 use Rattle.tile_layout.specs.declared.TileArgs.{TileArgs}
 use Rattle.tile_layout.specs.declared.TileRead.{TileRead}
 use Rattle.tile_layout.proofs.Demand3.{demand-3}
-use Rattle.frame_hdr.specs.Frame.{frameArgs, readReuse, withLayout, freshLayout, parseTileInfoFrmhdr, layoutRead, FreshDemand3}
+use Rattle.frame_hdr.specs.Frame.{frameArgs, readReuse, withLayout, freshLayout, parseTileInfoFrmhdr, frameTiles, FreshDemand3}
 use Rattle.frame_hdr.specs.declared.FrameHeader.{FrameHeader}
 use Rattle.frame_hdr.specs.declared.FrameRead.{FrameRead}
 use Rattle.frame_hdr.specs.declared.SeqLayout.{SeqLayout}
@@ -34,6 +34,6 @@ fresh-demand-3 s p h q d f =
     let a = frameArgs h q in
     let next = readReuse s p a q .next in
     let z = parseTileInfo s next (h .tiling) a in
-    subst (λ (r : FrameRead). Demand3 s next a (layoutRead r))
+    subst (λ (r : FrameRead). Demand3 s next a (frameTiles r))
     (sym (taken _ _ _ d ∙ through _ _ refl ∙ through _ _ refl ∙ left _ _ _ f ∙ through _ _ refl))
     (carried s next h a z (demand-3 s next (h .tiling) a (frame-in-domain h q d)))

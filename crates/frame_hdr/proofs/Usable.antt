@@ -18,7 +18,8 @@ use Rattle.tile_layout.specs.Limits.{unsigned, isSize, inDomain}
 use Rattle.tile_layout.specs.declared.TileArgs.{TileArgs}
 use Rattle.tile_layout.specs.declared.TileInfo.{TileInfo}
 use Rattle.tile_layout.proofs.Domain.{Pair, in-domain}
-use Rattle.frame_hdr.specs.Frame.{startsLow, usableTiles, isOff, usable, inFrameDomain, frameCode, multiplier, frameArgs, reuseAllowed, notReused}
+use Rattle.superblocks.specs.Counts.{multiplierOf}
+use Rattle.frame_hdr.specs.Frame.{startsLow, usableTiles, isOff, usable, inFrameDomain, frameCode, frameArgs, reuseAllowed, notReused}
 use Rattle.frame_hdr.specs.declared.FrameType.{FrameType}
 use Rattle.frame_hdr.specs.declared.FrameType.the-variants.{Key, Inter, Intra, Switch}
 use Rattle.frame_hdr.specs.declared.FrameHeader.{FrameHeader}
@@ -98,8 +99,8 @@ reused-tiled a q u e = by (isOff (q .present)) refl
     by true o = absurd (subst T (sym (rw o at e)) tt)
 
 -- the pair and the multiplier are always legal
-pair : (f : FrameType) (q : ℕ) → q ≤ 2 → Pair (frameCode f q) q (multiplier (frameCode f q) q)
-unfolding frameCode multiplier
+pair : (f : FrameType) (q : ℕ) → q ≤ 2 → Pair (frameCode f q) q (multiplierOf (frameCode f q) q)
+unfolding frameCode multiplierOf
 pair Key zero h = inl (omega arith, refl, refl)
 pair Key (suc zero) h = inl (omega arith, refl, refl)
 pair Key (suc (suc zero)) h = inr (refl, refl, refl)

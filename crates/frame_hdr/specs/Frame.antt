@@ -2,8 +2,8 @@
 use mathlib.Core.Path.{_≡_}
 use mathlib.Core.Bool.{Bool, true, false, _&&_, _||_}
 use mathlib.Core.List.{List, [], _∷_, _++_}
-use Prim.Native.Nat.{ℕ, zero, suc, _+_, _-_, _*_, _/_, _^_}
-use lib.Dec.{leb, ltb, eqb}
+use Prim.Native.Nat.{ℕ, zero, suc, _*_}
+use lib.Dec.{leb, eqb}
 use lib.ListN.{getD}
 use Rattle.answers.specs.Numbers.{isRefusal}
 use Rattle.answers.specs.declared.Answer.the-variants.{Accepted, WrongArguments}
@@ -19,6 +19,7 @@ use Rattle.tile_layout.specs.Demand3.{Demand3}
 use Rattle.tile_layout.specs.declared.TileArgs.{TileArgs}
 use Rattle.tile_layout.specs.declared.TileInfo.{TileInfo}
 use Rattle.tile_layout.specs.declared.TileRead.{TileRead}
+use Rattle.superblocks.specs.Counts.{multiplierOf, fitsUniform}
 use Rattle.frame_hdr.specs.declared.FrameType.{FrameType}
 use Rattle.frame_hdr.specs.declared.FrameType.the-variants.{Key, Inter, Intra, Switch}
 use Rattle.frame_hdr.specs.declared.FrameHeader.{FrameHeader}
@@ -54,6 +55,21 @@ usable q =
 unfoldable pub inFrameDomain : FrameHeader → SeqLayout → Bool
 inFrameDomain h q = isSize (unsigned (h .width)) && isSize (unsigned (h .height)) && usable q
 
+-- NUMBERS of a frame's type and of tiling's presence.
+-- types 0 to 3: key, inter, intra, switch
+abbrev pub isFrameType : ℕ → Bool
+isFrameType n = leb n 3
+
+abbrev pub frameTypeOf : ℕ → FrameType
+frameTypeOf n = pick (eqb n 0) Key (pick (eqb n 1) Inter (pick (eqb n 2) Intra Switch))
+
+-- presence 0 to 2: off, on, adaptive
+abbrev pub isPresence : ℕ → Bool
+isPresence n = leb n 2
+
+abbrev pub presentOf : ℕ → AdaptiveBoolean
+presentOf n = pick (eqb n 0) Off (pick (eqb n 1) On Adaptive)
+
 -- THE FRAME'S CODE, and what follows from it.
 abbrev pub isInterOrSwitch : FrameType → Bool
 isInterOrSwitch Key = false
@@ -65,15 +81,11 @@ isInterOrSwitch Switch = true
 unfoldable pub frameCode : FrameType → ℕ → ℕ
 frameCode f code = pick (isInterOrSwitch f) code (pick (eqb code 0) 0 1)
 
--- the multiplier: 2 for the pair (1,2), else 1
-unfoldable pub multiplier : ℕ → ℕ → ℕ
-multiplier frame-code seq-code = pick (eqb frame-code 1 && eqb seq-code 2) 2 1
-
 -- what the frame's layout is read for
 abbrev pub frameArgs : FrameHeader → SeqLayout → TileArgs
 frameArgs h q =
     record {
-      multiplier = multiplier (frameCode (h .«frame_type») (q .sb128)) (q .sb128);
+      multiplier = multiplierOf (frameCode (h .«frame_type») (q .sb128)) (q .sb128);
       «frame_code» = frameCode (h .«frame_type») (q .sb128);
       «seq_code» = q .sb128;
       width = unsigned (h .width);
@@ -94,11 +106,7 @@ seqSbh q = superblocks (unsigned (q .«max_height»)) (q .sb128)
 unfoldable pub sameCounts : TileArgs → SeqLayout → Bool
 sameCounts a q = eqb (seqSbw q) (sbw a) && eqb (seqSbh q) (sbh a)
 
--- a uniform one fits along n of the frame's superblocks if, with cols = 2^log2 and tile_w = ceil(n / cols), tile_w * (cols - 1) is below n
-unfoldable pub fitsUniform : ℕ → ℕ → Bool
-fitsUniform log2 n = ltb ((n + (2 ^ log2 - 1)) / 2 ^ log2 * (2 ^ log2 - 1)) n
-
--- may the sequence's layout be reused? Not where tiling is Off
+-- may the sequence's layout be reused? Not where tiling is Off; a uniform one if it fits along the frame's superblocks both ways
 unfoldable pub reuseAllowed : TileArgs → SeqLayout → Bool
 reuseAllowed a q =
     pick (isOff (q .present)) false
@@ -165,12 +173,12 @@ parseTileInfoFrmhdr s p h q =
 
 -- DEMAND 3.
 -- the layout in a frame's answer
-abbrev pub layoutRead : FrameRead → TileRead
-layoutRead r = record { answer = r .answer; info = r .hdr .tiling; next = r .next }
+abbrev pub frameTiles : FrameRead → TileRead
+frameTiles r = record { answer = r .answer; info = r .hdr .tiling; next = r .next }
 
 -- it holds of every call that reads a layout, from the place behind the question of reuse, and reuses none
 abbrev pub FreshDemand3 : List ℕ → Place → FrameHeader → SeqLayout → FrameRead → Type 0
 FreshDemand3 s p h q r =
     inFrameDomain h q ≡ true
     → readReuse s p (frameArgs h q) q .value ≡ false
-    → Demand3 s (readReuse s p (frameArgs h q) q .next) (frameArgs h q) (layoutRead r)
+    → Demand3 s (readReuse s p (frameArgs h q) q .next) (frameArgs h q) (frameTiles r)

@@ -8,14 +8,15 @@ ghost use Rattle.frame_hdr.specs.Frame.{startsLow, usableTiles, isOff, u
 use super::FrameHeader;
 use super::SeqLayout;
 use seq_fields::AdaptiveBoolean;
+use superblocks::is_size;
 use tile_layout::TileInfo;
 use tile_layout::not_below_0;
 
-fn is_size(x: i32) -> bool
+// A width or height in the domain.
+fn is_extent(x: i32) -> bool
     ensures { λ r. ⌜ r ≡ isSize (unsigned x) ⌝ }
 {
-    let n = not_below_0(x);
-    (1 <= n) & (n <= 65536)
+    is_size(not_below_0(x))
 }
 
 // The start at i, and 0 past the end.
@@ -69,8 +70,8 @@ fn is_usable(seq: SeqLayout) -> bool
 {
     let present = seq.present;
     (seq.sb128 <= 2)
-        & is_size(seq.max_width)
-        & is_size(seq.max_height)
+        & is_extent(seq.max_width)
+        & is_extent(seq.max_height)
         & (seq.level <= 31)
         & (seq.tier <= 1)
         & (is_off(present) | usable_info(seq.t))
@@ -79,5 +80,5 @@ fn is_usable(seq: SeqLayout) -> bool
 pub fn in_frame_domain(hdr: FrameHeader, seq: SeqLayout) -> bool
     ensures { λ r. ⌜ r ≡ inFrameDomain hdr seq ⌝ }
 {
-    is_size(hdr.width) & is_size(hdr.height) & is_usable(seq)
+    is_extent(hdr.width) & is_extent(hdr.height) & is_usable(seq)
 }

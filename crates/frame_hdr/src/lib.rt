@@ -2,7 +2,7 @@
 ghost use mathlib.Core.Path.{_≡_};
 ghost use mathlib.Core.Bool.{true};
 ghost use Rattle.tile_layout.specs.Limits.{unsigned, inDomain};
-ghost use Rattle.frame_hdr.specs.Frame.{isInterOrSwitch, frameCode, multiplier, frameArgs, withLayout, freshLayout, parseTileInfoFrmhdr, FreshDemand3};
+ghost use Rattle.frame_hdr.specs.Frame.{frameTypeOf, presentOf, isInterOrSwitch, frameCode, frameArgs, withLayout, freshLayout, parseTileInfoFrmhdr, FreshDemand3};
 ghost use Rattle.frame_hdr.specs.Sequence.{seqLayout};
 use answers::Answer;
 use answers::is_refusal;
@@ -10,6 +10,7 @@ use getbits::Place;
 use getbits::read_bits;
 use seq_fields::AdaptiveBoolean;
 use seq_record::SequenceHeader;
+use superblocks::multiplier_of;
 use tile_info::parse_tile_info;
 use tile_layout::TileArgs;
 use tile_layout::TileInfo;
@@ -17,7 +18,6 @@ use tile_layout::not_below_0;
 
 mod domain;
 mod reuse;
-mod sb;
 
 use domain::in_frame_domain;
 use reuse::read_reuse;
@@ -58,6 +58,29 @@ pub struct FrameRead {
     pub next: Place,
 }
 
+// The type with a number.
+pub fn frame_type_of(n: u8) -> FrameType
+    ensures { λ r. ⌜ r ≡ frameTypeOf n ⌝ }
+{
+    match n {
+        0 => FrameType::Key,
+        1 => FrameType::Inter,
+        2 => FrameType::Intra,
+        _ => FrameType::Switch,
+    }
+}
+
+// The presence with a number.
+pub fn present_of(n: u8) -> AdaptiveBoolean
+    ensures { λ r. ⌜ r ≡ presentOf n ⌝ }
+{
+    match n {
+        0 => AdaptiveBoolean::Off,
+        1 => AdaptiveBoolean::On,
+        _ => AdaptiveBoolean::Adaptive,
+    }
+}
+
 fn is_inter_or_switch(frame_type: FrameType) -> bool
     ensures { λ r. ⌜ r ≡ isInterOrSwitch «frame_type» ⌝ }
 {
@@ -79,24 +102,13 @@ fn frame_code(frame_type: FrameType, seq_sb128: u8) -> u8
     if seq_sb128 != 0 { 1 } else { 0 }
 }
 
-// How many of the frame's superblocks one of the sequence's is wide.
-fn sbmul(sb128: u8, seq_sb128: u8) -> u32
-    ensures { λ r. ⌜ r ≡ multiplier sb128 «seq_sb128» ⌝ }
-{
-    if (sb128 == 1) & (seq_sb128 == 2) {
-        2
-    } else {
-        1
-    }
-}
-
 fn frame_args(hdr: FrameHeader, seq: SeqLayout) -> TileArgs
     ensures { λ r. ⌜ r ≡ frameArgs hdr seq ⌝ }
 {
     let frame_type = hdr.frame_type;
     let sb128 = frame_code(frame_type, seq.sb128);
     TileArgs {
-        multiplier: sbmul(sb128, seq.sb128),
+        multiplier: multiplier_of(sb128, seq.sb128),
         frame_code: sb128,
         seq_code: seq.sb128,
         width: not_below_0(hdr.width),

@@ -11,9 +11,11 @@ use lib.Dec.{T, lit<, ltb, eqb}
 use Rattle.codes.specs.Codes.{getUniform}
 use Rattle.codes.proofs.Callers.{uniform-lt}
 use Rattle.getbits.specs.Chain.{pick}
+use Rattle.getbits.proofs.Chain.{picked}
 use Rattle.getbits.proofs.Places.{lt-or-le}
 use Rattle.getbits.specs.declared.Place.{Place}
 use Rattle.tile_layout.specs.Limits.{doublings}
+use Rattle.tile_layout.proofs.Domain.{Pair, pairs}
 use Rattle.tile_layout.proofs.Logs.{double-none}
 use Rattle.superblocks.specs.Counts.{multiplierOf}
 
@@ -43,7 +45,17 @@ log-done k reach tgt h e =
     (λ g. let q : 20 - k ≡ 0 = omega arith in rw q refl)
     (lt-or-le k 20)
 
--- the multiplier is 1 where it is not 2
+-- a legal pair has its multiplier
+pub legal : (f q m : ℕ) → Pair f q m → multiplierOf f q ≡ m
+unfolding multiplierOf
+legal = pairs (λ f q m. multiplierOf f q ≡ m) refl refl refl refl
+
+-- the multiplier is at most 2
+pub low-multiplier : (f q : ℕ) → multiplierOf f q ≤ 2
+unfolding multiplierOf
+low-multiplier f q = picked (λ (m : ℕ). m ≤ 2) (eqb f 1 && eqb q 2) 2 1 (λ e. omega arith) (λ e. omega arith)
+
+-- and 1 where it is not 2
 pub not-doubled : (f q : ℕ) → eqb (multiplierOf f q) 2 ≡ false → multiplierOf f q ≡ 1
 unfolding multiplierOf
 not-doubled f q e = by (eqb f 1 && eqb q 2) e

@@ -66,7 +66,14 @@ fn fill(starts: [u16; 65], pair: Pair, split: Split, end: FrameSb) -> [u16; 65]
 }
 
 // The columns or rows along n samples, which are `end` superblocks of the frame.
-pub fn uniform_starts(starts: [u16; 65], a: TileArgs, pair: Pair, n: u32, end: FrameSb, log2: u8) -> Starts
+pub fn uniform_starts(
+    starts: [u16; 65],
+    a: TileArgs,
+    pair: Pair,
+    n: u32,
+    end: FrameSb,
+    log2: u8,
+) -> Starts
     requires { ⌜ inDomain a ≡ true ⌝ }
     requires { ⌜ Coded a pair ⌝ }
     requires { ⌜ (1 ≤ n) × (n ≤ 65536) × (end .0 ≡ superblocks n (a .«frame_code»)) × (log2 ≤ 6) ⌝ }

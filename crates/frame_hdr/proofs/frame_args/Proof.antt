@@ -8,7 +8,7 @@ use Rattle.frame_hdr.proofs.frame_args.Tie as tie
 returns : tie.Need-returns
 returns c =
     let h = c .before .before .before .before .before .before .args .hdr in
-    rw (c .not-below-02 .ensures, c .before .before .not-below-0 .ensures, c .before .before .before .before .sbmul .ensures, c .before .before .before .before .before .frame-code .ensures, back (h .height) (c .before .struct-told2 .given .1 .1 .0 .1), back (h .width) (c .before .before .before .struct-told .given .1 .0 .1)) refl
+    rw (c .not-below-02 .ensures, c .before .before .not-below-0 .ensures, c .before .before .before .before .multiplier-of .ensures .0, c .before .before .before .before .before .frame-code .ensures, back (h .height) (c .before .struct-told2 .given .1 .1 .0 .1), back (h .width) (c .before .before .before .struct-told .given .1 .0 .1)) refl
 
 pub frame-args-spec : {M : Type 1} → statement M
 frame-args-spec =

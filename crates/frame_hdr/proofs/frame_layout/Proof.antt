@@ -59,7 +59,7 @@ returns c =
     outcome k (sym (left _ _ _ t ∙ ap (λ (x : Place). record { answer = WrongArguments; hdr = k .args .hdr; next = x }) (sym q)))
 
 reuse-allowed-requires : tie.Need-reuse-allowed-requires
-reuse-allowed-requires c κs = (in-domain c, frame-usable _ _ (inside (c .before)))
+reuse-allowed-requires c κs = (in-domain c, (frame-usable _ _ (inside (c .before)), ap (λ (x : TileArgs). x .«seq_code») (c .frame-args .ensures)))
 
 reused-info-requires : tie.Need-reused-info-requires
 reused-info-requires c κs =

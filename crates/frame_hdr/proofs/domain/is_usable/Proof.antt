@@ -12,7 +12,7 @@ returns c =
     let y = c .before .before .before .before in
     let x = y .before .before in
     let q = x .before .before .before .args .seq in
-    rw (c .usable-info .ensures, c .before .is-off .ensures, y .is-size2 .ensures, x .is-size .ensures, back (q .«max_height») (y .before .struct-told2 .given .1 .1 .0 .1), back (q .«max_width») (x .before .struct-told .given .1 .0 .1)) refl
+    rw (c .usable-info .ensures, c .before .is-off .ensures, y .is-extent2 .ensures, x .is-extent .ensures, back (q .«max_height») (y .before .struct-told2 .given .1 .1 .0 .1), back (q .«max_width») (x .before .struct-told .given .1 .0 .1)) refl
 
 pub is-usable-spec : {M : Type 1} → statement M
 is-usable-spec =
