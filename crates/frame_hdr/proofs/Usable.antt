@@ -64,8 +64,6 @@ sized n e =
 
 pub record Usable (q : SeqLayout) : Type 0 where
   pub code : q .sb128 ≤ 2
-  pub width : unsigned (q .«max_width») ≤ 65536
-  pub height : unsigned (q .«max_height») ≤ 65536
   pub level : q .level ≤ 31
   pub tier : q .tier ≤ 1
   pub tiled : isOff (q .present) ≡ false → Tiled (q .t)
@@ -82,8 +80,6 @@ known q e =
     let f = both (leb (q .sb128) 2) (isSize (unsigned (q .«max_width»))) (d .0) in
     record {
       code = leb-true (q .sb128) 2 (f .0);
-      width = sized (unsigned (q .«max_width»)) (f .1) .1;
-      height = sized (unsigned (q .«max_height»)) (d .1) .1;
       level = leb-true (q .level) 31 (c .1);
       tier = leb-true (q .tier) 1 (b .1);
       tiled = λ o. let w = both u v (rw o at (a .1)) in record { cols = w .0; rows = w .1 };

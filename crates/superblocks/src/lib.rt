@@ -358,7 +358,8 @@ impl SeqStarts {
     pub fn entries(self) -> [u16; 65]
         ensures { λ r. ⌜ r ≡ self .0 ⌝ }
     {
-        self.0
+        let starts = self.0;
+        starts
     }
 }
 

@@ -1,7 +1,6 @@
 -- `superblocks::read_size` meets its contract. Assumes nothing.
 use mathlib.Core.Path.{_≡_, _∙_, ap}
-use Prim.Native.Nat.{ℕ, _+_, min}
-use native.Mathlib.Omega.{arith}
+use Prim.Native.Nat.{_+_, min}
 use Rattle.codes.specs.Codes.{getUniform}
 use Rattle.getbits.specs.declared.Number.{Number}
 use Rattle.superblocks.proofs.Counts.{uniform-fits}

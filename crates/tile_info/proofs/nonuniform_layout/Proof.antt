@@ -27,21 +27,30 @@ max-tile-height-sb-requires c κs =
 read-tiles-requires-2 : tie.Need-read-tiles-requires-2
 unfolding rowLimit
 read-tiles-requires-2 c κs =
-    let d = domain (c .before .before .before .before .before .before .args .a) (c .before .before .before .before .before .before .pre .0) in
-    (omega (arith, c .before .before .before .before .before .before .pre .1 .down, down _ d .most-all), omega (arith, c .max-tile-height-sb .ensures))
+    let s = c .before .before .before .before .before .before in
+    (omega (arith, s .pre .1 .down, down _ (domain (s .args .a) (s .pre .0)) .most-all), omega (arith, c .max-tile-height-sb .ensures))
 
 returns-2 : tie.Need-returns-2
 returns-2 c =
-    let s = c .before .before .before .before .before .before .before .before .before in
+    let r = c .before .before in
+    let m = r .before in
+    let e = m .before .before in
+    let t = e .before in
+    let s = t .before .before .before in
     c .invalid-tile-info2 .ensures
-    ∙ rows-short (s .args .s .now) (s .args .p) (s .args .thdr) (s .pre .1) (c .before .before .before .before .before .before .read-tiles .result) (c .before .before .read-tiles2 .result) _ (c .before .before .before .before .before .before .read-tiles .ensures) (c .before .before .before .before .before .if1 .left)
-    (c .before .before .before .max-tile-height-sb .ensures) (c .before .before .read-tiles2 .ensures) (c .before .if2 .taken)
+    ∙ rows-short (s .args .s .now) (s .args .p) (s .args .thdr) (s .pre .1) (t .read-tiles .result) (r .read-tiles2 .result) _ (t .read-tiles .ensures) (e .if1 .left)
+    (m .max-tile-height-sb .ensures) (r .read-tiles2 .ensures) (c .before .if2 .taken)
 
 returns-3 : tie.Need-returns-3
 returns-3 c =
-    let s = c .before .before .before .before .before .before .before .before .before .before .before in
-    sized-made (s .args .s .now) (s .args .p) (s .args .thdr) (s .pre .1) (c .before .before .before .before .before .before .before .before .read-tiles .result) (c .before .before .before .before .read-tiles2 .result) _ (c .before .before .before .before .before .before .before .before .read-tiles .ensures) (c .before .before .before .before .before .before .before .if1 .left)
-    (c .before .before .before .before .before .max-tile-height-sb .ensures) (c .before .before .before .before .read-tiles2 .ensures) (c .before .before .before .if2 .left)
+    let f = c .before .before .before in
+    let r = f .before in
+    let m = r .before in
+    let e = m .before .before in
+    let t = e .before in
+    let s = t .before .before .before in
+    sized-made (s .args .s .now) (s .args .p) (s .args .thdr) (s .pre .1) (t .read-tiles .result) (r .read-tiles2 .result) _ (t .read-tiles .ensures) (e .if1 .left)
+    (m .max-tile-height-sb .ensures) (r .read-tiles2 .ensures) (f .if2 .left)
 
 pub nonuniform-layout-spec : {M : Type 1} → statement M
 nonuniform-layout-spec =

@@ -38,13 +38,15 @@ uniform-starts-requires-2 c κs =
 
 returns : tie.Need-returns
 returns c =
-    let s = c .before .before .before .before .before .before .before .before .before .before .before in
-    let l = c .before .before .before .before .before .before .before .before .before .read-log2 .ensures in
-    let m = c .before .before .before .before .before .before .before .read-log22 .ensures in
-    let x = c .before .before .before .before .uniform-starts .ensures in
-    let y = c .before .before .before .uniform-starts2 .ensures in
-    uniform-made (s .args .s .now) (s .args .p) (s .args .thdr) (s .pre .1) (c .before .before .before .before .before .before .before .before .before .read-log2 .result) (c .before .before .before .before .before .before .before .read-log22 .result) _ (c .before .before .before .before .uniform-starts .result) (c .before .before .before .uniform-starts2 .result)
-    (l .0) (l .1) (c .before .before .before .before .before .before .before .before .usub .ensures) (m .0) (m .1) (x .0) (x .1) (y .0) (y .1)
+    let y = c .before .before .before in
+    let x = y .before in
+    let r = x .before .before .before in
+    let u = r .before in
+    let l = u .before in
+    let s = l .before .before in
+    uniform-made (s .args .s .now) (s .args .p) (s .args .thdr) (s .pre .1) (l .read-log2 .result) (r .read-log22 .result) _ (x .uniform-starts .result) (y .uniform-starts2 .result)
+    (l .read-log2 .ensures .0) (l .read-log2 .ensures .1) (u .usub .ensures) (r .read-log22 .ensures .0) (r .read-log22 .ensures .1)
+    (x .uniform-starts .ensures .0) (x .uniform-starts .ensures .1) (y .uniform-starts2 .ensures .0) (y .uniform-starts2 .ensures .1)
 
 pub uniform-layout-spec : {M : Type 1} → statement M
 uniform-layout-spec =

@@ -1,6 +1,6 @@
 -- `frame_hdr::reuse::reused_info` meets its contract. Assumes nothing.
 use mathlib.Core.Path.{_≡_, refl}
-use Prim.Native.Nat.{_≤_, min}
+use Prim.Native.Nat.{min}
 use native.Mathlib.Omega.{arith}
 use Rattle.tile_layout.proofs.Domain.{domain, low-code, across, down}
 use Rattle.superblocks.specs.Counts.{multiplierOf}

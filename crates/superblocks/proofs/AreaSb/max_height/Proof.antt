@@ -1,5 +1,5 @@
 -- `superblocks::AreaSb::max_height` meets its contract. Assumes nothing.
-use mathlib.Core.Path.{_∙_, ap, sym}
+use mathlib.Core.Path.{_∙_, ap}
 use Prim.Native.Nat.{ℕ, _/_, max}
 use native.Mathlib.Nat.{div-zero}
 use borrow.Author.Needs.{needs}

@@ -1,7 +1,6 @@
 -- `superblocks::FrameSb::times` meets its contract. Assumes nothing.
 use mathlib.Core.Path.{_∙_, ap₂}
 use Prim.Native.Nat.{ℕ, _*_, min}
-use native.Mathlib.Omega.{arith}
 use Rattle.superblocks.proofs.Counts.{product-fits}
 use borrow.Author.Needs.{needs}
 use Rattle.superblocks.proofs.FrameSb.times.Statement.{statement}

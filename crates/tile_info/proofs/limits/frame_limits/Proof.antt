@@ -1,6 +1,6 @@
 -- `tile_info::limits::frame_limits` meets its contract. Assumes nothing.
 use mathlib.Core.Path.{_≡_, _∙_, ap, ap₂}
-use Prim.Native.Nat.{ℕ, _*_, min, max}
+use Prim.Native.Nat.{ℕ, min, max}
 use Rattle.tile_layout.specs.Limits.{superblocks, sbw, sbh, tileLog2, minLog2Cols, maxLog2Cols, maxLog2Rows, minLog2Tiles}
 use Rattle.tile_info.specs.Inner.{Coded}
 use Rattle.tile_info.proofs.Coded.{frame-code, whole}

@@ -1,5 +1,4 @@
 -- `tile_info::nonuniform::read_tiles` meets its contract. Assumes nothing.
-use mathlib.Core.List.{List}
 use mathlib.Core.Path.{_≡_, sym, _∙_, ap}
 use Prim.Native.Nat.{ℕ, _%_, min}
 use native.Mathlib.Omega.{arith}

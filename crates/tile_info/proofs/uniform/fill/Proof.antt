@@ -1,12 +1,11 @@
 -- `tile_info::uniform::fill` meets its contract. Assumes nothing.
 use mathlib.Core.Logic.{⊎-elim}
-use mathlib.Core.List.{List, [], _∷_, _++_}
-use mathlib.Core.Path.{_≡_, refl, sym, _∙_, ap, ap₂}
+use mathlib.Core.Path.{_≡_, refl, sym, _∙_, ap}
 use Prim.Native.Nat.{ℕ, _+_, _-_, _*_, _%_, min, _≤_, _<_}
 use native.Mathlib.Nat.{mul-le-mul, mul-le-mul-left, mul-suc, mul-zero}
 use native.Mathlib.Omega.{arith}
 use borrow.Author.Tests.{ltb-true, ltb-false}
-use lib.ListN.{length, set}
+use lib.ListN.{length}
 use Rattle.tile_layout.proofs.Laws.{times-next, stored, closed}
 use Rattle.tile_layout.specs.Layout.{tabulate, over}
 use Rattle.superblocks.specs.declared.SeqSb.{SeqSb}

@@ -1,10 +1,10 @@
 -- `tile_info::uniform::uniform_starts` meets its contract. Assumes nothing.
-use mathlib.Core.Path.{_≡_, _∙_, ap, ap₂}
+use mathlib.Core.Path.{_≡_, _∙_, ap₂}
 use Prim.Native.Nat.{ℕ, _*_, _%_, _≤_}
 use native.Mathlib.Nat.{le-mul-of-pos-right}
 use native.Mathlib.Omega.{arith}
 use lib.Pow.{pow-pos}
-use Rattle.tile_layout.proofs.Even.{few-tiles, base-le, holds}
+use Rattle.tile_layout.proofs.Even.{few-tiles, holds}
 use Rattle.tile_layout.proofs.Domain.{Along, domain, along}
 use Rattle.tile_layout.specs.Layout.{fullCount, totalCount, base, count, larger, startAt}
 use Rattle.tile_layout.specs.Limits.{superblocks}
