@@ -1,6 +1,7 @@
 -- What a caller of the C interface lends: flags in bytes, and a reader's place as a position in bits and an error.
 use Prim.Native.Nat.{ℕ, _+_, _*_, _%_, _^_}
 use mathlib.Core.Bool.{Bool, not}
+use mathlib.Core.List.{List, [], _∷_}
 use lib.Dec.{eqb}
 use Rattle.getbits.specs.Bits.{placeAt}
 use Rattle.getbits.specs.Chain.{pick}
@@ -21,3 +22,7 @@ positionOf p = (8 * p .byte + p .used) % 2 ^ 64
 -- the error's byte after an operation that leaves the reader's error as e: as it was if it is set already, else 1 if e is set and 0 if not
 abbrev pub errorAfter : Bool → ℕ → ℕ
 errorAfter e error = pick (isSet error) error (pick e 1 0)
+
+-- a place as it is handed back to a caller whose error's byte was `error`: its position, and the error's byte after
+abbrev pub lentPlace : Place → ℕ → List ℕ
+lentPlace p error = positionOf p ∷ errorAfter (p .error) error ∷ []

@@ -1,6 +1,7 @@
 // What a caller of the C interface lends: flags in bytes, and a reader's place as a position in bits and an error.
 ghost use mathlib.Core.Path.{_≡_};
-ghost use Rattle.lent.specs.Lent.{isSet, placeOf, positionOf, errorAfter};
+ghost use mathlib.Core.List.{[], _∷_};
+ghost use Rattle.lent.specs.Lent.{isSet, placeOf, positionOf, errorAfter, lentPlace};
 use getbits::Place;
 
 pub fn is_set(flag: u8) -> bool
@@ -32,4 +33,16 @@ pub fn error_after(e: bool, error: u8) -> u8
         return error;
     }
     if e { 1 } else { 0 }
+}
+
+// The place is handed back: the error is stored only where it is newly set.
+pub fn put_place(p: Place, position: &mut usize, error: &mut u8)
+    ensures { λ _. ⌜ (now (position .exit) ∷ now (error .exit) ∷ []) ≡ lentPlace p (now (error .entry)) ⌝ }
+{
+    *position = position_of(p);
+    if p.error {
+        if *error == 0 {
+            *error = 1;
+        }
+    }
 }
