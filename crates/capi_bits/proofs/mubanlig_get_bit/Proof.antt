@@ -1,0 +1,14 @@
+-- `capi_bits::mubanlig_get_bit` meets its contract. Assumes nothing.
+use borrow.Author.Needs.{needs}
+use Rattle.capi_bits.proofs.Handed.{handed}
+use Rattle.capi_bits.proofs.mubanlig_get_bit.Statement.{statement}
+use Rattle.capi_bits.proofs.mubanlig_get_bit.Tie as tie
+
+returns : tie.Need-returns
+returns c =
+    let k = c .before .before .before in
+    let start = k .before .before .before .before .before in
+    handed (k .get-bit .result) _ (start .args .error .now) (rw (k .before .place-of .ensures) at (k .get-bit .ensures)) (c .put-place .ensures)
+
+pub mubanlig-get-bit-spec : {M : Type 1} → statement M
+mubanlig-get-bit-spec = tie.close (tie.spec (λ c κs. search needs) (λ c κs. search needs) (λ c κs. search needs) returns)

@@ -1,0 +1,14 @@
+-- `capi_bits::mubanlig_get_vlc` meets its contract. Assumes nothing.
+use borrow.Author.Needs.{needs}
+use Rattle.capi_bits.proofs.Handed.{handed}
+use Rattle.capi_bits.proofs.mubanlig_get_vlc.Statement.{statement}
+use Rattle.capi_bits.proofs.mubanlig_get_vlc.Tie as tie
+
+returns : tie.Need-returns
+returns c =
+    let k = c .before .before .before in
+    let start = k .before .before .before .before .before in
+    handed (k .get-vlc .result) _ (start .args .error .now) (rw (k .before .place-of .ensures) at (k .get-vlc .ensures)) (c .put-place .ensures)
+
+pub mubanlig-get-vlc-spec : {M : Type 1} → statement M
+mubanlig-get-vlc-spec = tie.close (tie.spec (λ c κs. search needs) (λ c κs. search needs) (λ c κs. search needs) returns)

@@ -1,0 +1,179 @@
+// The readings for Rust and C: numbers and slices only. A place is lent as the bits before it and the error.
+ghost use mathlib.Core.List.{[], _∷_};
+ghost use mathlib.Core.Path.{_≡_};
+ghost use Prim.Native.Nat.{_-_};
+ghost use lib.IntN.{pos};
+ghost use lib.ListN.{length};
+ghost use Rattle.codes.specs.Codes.{getVlc, getUniform, getRefUniform, getUleb128, getGolomb, getBitsSubexpU, getBitsSubexp};
+ghost use Rattle.getbits.specs.Bits.{getBit, getBits, getSbits, bytePos, byteAlign};
+ghost use Rattle.lent.specs.Lent.{placeOf, positionOf};
+ghost use Rattle.capi_bits.specs.Numbers.{lentNumber, lentSigned};
+use codes::get_bits_subexp;
+use codes::get_bits_subexp_u;
+use codes::get_golomb;
+use codes::get_ref_uniform;
+use codes::get_uleb128;
+use codes::get_uniform;
+use codes::get_vlc;
+use getbits::byte_pos;
+use getbits::bytealign;
+use getbits::get_bit;
+use getbits::get_bits;
+use getbits::get_sbits;
+use getbits::remaining_bytes;
+use lent::place_of;
+use lent::position_of;
+use lent::put_place;
+
+// The number of the interface.
+#[no_mangle]
+pub extern "C" fn mubanlig_bits_interface_2() -> u32
+    ensures { λ r. ⌜ r ≡ 2 ⌝ }
+{
+    2
+}
+
+#[no_mangle]
+pub extern "C" fn mubanlig_get_bit(s: &[u8], position: &mut usize, error: &mut u8) -> u32
+    ensures { λ r. ⌜ (r ∷ now (position .exit) ∷ now (error .exit) ∷ [])
+        ≡ lentNumber (getBit (now (s .entry)) (placeOf (now (position .entry)) (now (error .entry)))) (now (error .entry)) ⌝ }
+{
+    let r = get_bit(s, place_of(*position, *error));
+    put_place(r.next, &mut *position, &mut *error);
+    r.value
+}
+
+#[no_mangle]
+pub extern "C" fn mubanlig_get_bits(s: &[u8], position: &mut usize, error: &mut u8, n: i32) -> u32
+    ensures { λ r. ⌜ (r ∷ now (position .exit) ∷ now (error .exit) ∷ [])
+        ≡ lentNumber (getBits (now (s .entry)) (placeOf (now (position .entry)) (now (error .entry))) n) (now (error .entry)) ⌝ }
+{
+    let r = get_bits(s, place_of(*position, *error), n);
+    put_place(r.next, &mut *position, &mut *error);
+    r.value
+}
+
+#[no_mangle]
+pub extern "C" fn mubanlig_get_sbits(s: &[u8], position: &mut usize, error: &mut u8, n: i32) -> i32
+    ensures { λ r. ⌜ (r ∷ pos (now (position .exit)) ∷ pos (now (error .exit)) ∷ [])
+        ≡ lentSigned (getSbits (now (s .entry)) (placeOf (now (position .entry)) (now (error .entry))) n) (now (error .entry)) ⌝ }
+{
+    let r = get_sbits(s, place_of(*position, *error), n);
+    put_place(r.next, &mut *position, &mut *error);
+    r.value
+}
+
+#[no_mangle]
+pub extern "C" fn mubanlig_get_vlc(s: &[u8], position: &mut usize, error: &mut u8) -> u32
+    ensures { λ r. ⌜ (r ∷ now (position .exit) ∷ now (error .exit) ∷ [])
+        ≡ lentNumber (getVlc (now (s .entry)) (placeOf (now (position .entry)) (now (error .entry)))) (now (error .entry)) ⌝ }
+{
+    let r = get_vlc(s, place_of(*position, *error));
+    put_place(r.next, &mut *position, &mut *error);
+    r.value
+}
+
+#[no_mangle]
+pub extern "C" fn mubanlig_get_uniform(
+    s: &[u8],
+    position: &mut usize,
+    error: &mut u8,
+    max: u32,
+) -> u32
+    ensures { λ r. ⌜ (r ∷ now (position .exit) ∷ now (error .exit) ∷ [])
+        ≡ lentNumber (getUniform (now (s .entry)) (placeOf (now (position .entry)) (now (error .entry))) max) (now (error .entry)) ⌝ }
+{
+    let r = get_uniform(s, place_of(*position, *error), max);
+    put_place(r.next, &mut *position, &mut *error);
+    r.value
+}
+
+#[no_mangle]
+pub extern "C" fn mubanlig_get_ref_uniform(
+    s: &[u8],
+    position: &mut usize,
+    error: &mut u8,
+    max: u32,
+    def: u32,
+) -> u32
+    ensures { λ r. ⌜ (r ∷ now (position .exit) ∷ now (error .exit) ∷ [])
+        ≡ lentNumber (getRefUniform (now (s .entry)) (placeOf (now (position .entry)) (now (error .entry))) max def) (now (error .entry)) ⌝ }
+{
+    let r = get_ref_uniform(s, place_of(*position, *error), max, def);
+    put_place(r.next, &mut *position, &mut *error);
+    r.value
+}
+
+#[no_mangle]
+pub extern "C" fn mubanlig_get_uleb128(s: &[u8], position: &mut usize, error: &mut u8) -> u32
+    ensures { λ r. ⌜ (r ∷ now (position .exit) ∷ now (error .exit) ∷ [])
+        ≡ lentNumber (getUleb128 (now (s .entry)) (placeOf (now (position .entry)) (now (error .entry)))) (now (error .entry)) ⌝ }
+{
+    let r = get_uleb128(s, place_of(*position, *error));
+    put_place(r.next, &mut *position, &mut *error);
+    r.value
+}
+
+#[no_mangle]
+pub extern "C" fn mubanlig_get_golomb(s: &[u8], position: &mut usize, error: &mut u8, k: u32) -> u32
+    ensures { λ r. ⌜ (r ∷ now (position .exit) ∷ now (error .exit) ∷ [])
+        ≡ lentNumber (getGolomb (now (s .entry)) (placeOf (now (position .entry)) (now (error .entry))) k) (now (error .entry)) ⌝ }
+{
+    let r = get_golomb(s, place_of(*position, *error), k);
+    put_place(r.next, &mut *position, &mut *error);
+    r.value
+}
+
+#[no_mangle]
+pub extern "C" fn mubanlig_get_bits_subexp_u(
+    s: &[u8],
+    position: &mut usize,
+    error: &mut u8,
+    ref_val: u32,
+    n: u32,
+    k: i32,
+) -> u32
+    ensures { λ r. ⌜ (r ∷ now (position .exit) ∷ now (error .exit) ∷ [])
+        ≡ lentNumber (getBitsSubexpU (now (s .entry)) (placeOf (now (position .entry)) (now (error .entry))) «ref_val» n k) (now (error .entry)) ⌝ }
+{
+    let r = get_bits_subexp_u(s, place_of(*position, *error), ref_val, n, k);
+    put_place(r.next, &mut *position, &mut *error);
+    r.value
+}
+
+#[no_mangle]
+pub extern "C" fn mubanlig_get_bits_subexp(
+    s: &[u8],
+    position: &mut usize,
+    error: &mut u8,
+    ref_val: i32,
+    n: u32,
+) -> i32
+    ensures { λ r. ⌜ (r ∷ pos (now (position .exit)) ∷ pos (now (error .exit)) ∷ [])
+        ≡ lentSigned (getBitsSubexp (now (s .entry)) (placeOf (now (position .entry)) (now (error .entry))) «ref_val» n) (now (error .entry)) ⌝ }
+{
+    let r = get_bits_subexp(s, place_of(*position, *error), ref_val, n);
+    put_place(r.next, &mut *position, &mut *error);
+    r.value
+}
+
+#[no_mangle]
+pub extern "C" fn mubanlig_bytealign(s: &[u8], position: &mut usize)
+    ensures { λ _. ⌜ now (position .exit) ≡ positionOf (byteAlign (now (s .entry)) (placeOf (now (position .entry)) 0)) ⌝ }
+{
+    *position = position_of(bytealign(s, place_of(*position, 0)));
+}
+
+#[no_mangle]
+pub extern "C" fn mubanlig_byte_pos(s: &[u8], position: usize) -> usize
+    ensures { λ r. ⌜ r ≡ bytePos (now (s .entry)) (placeOf position 0) ⌝ }
+{
+    byte_pos(s, place_of(position, 0))
+}
+
+#[no_mangle]
+pub extern "C" fn mubanlig_remaining_bytes(s: &[u8], position: usize) -> usize
+    ensures { λ r. ⌜ r ≡ length (now (s .entry)) - bytePos (now (s .entry)) (placeOf position 0) ⌝ }
+{
+    remaining_bytes(s, place_of(position, 0))
+}
