@@ -1,10 +1,10 @@
 // The readings for Rust and C: numbers and slices only. A place is lent as the bits before it and the error.
 ghost use mathlib.Core.List.{[], _∷_};
 ghost use mathlib.Core.Path.{_≡_};
-ghost use Prim.Native.Nat.{_-_};
+ghost use Prim.Native.Nat.{_-_, _*_, _^_, _<_, _≤_};
 ghost use lib.IntN.{pos};
 ghost use lib.ListN.{length};
-ghost use Rattle.codes.specs.Codes.{getVlc, getUniform, getRefUniform, getUleb128, getGolomb, getBitsSubexpU, getBitsSubexp};
+ghost use Rattle.codes.specs.Codes.{bitLength, getVlc, getUniform, getRefUniform, getUleb128, getGolomb, getBitsSubexpU, getBitsSubexp};
 ghost use Rattle.getbits.specs.Bits.{getBit, getBits, getSbits, bytePos, byteAlign};
 ghost use Rattle.lent.specs.Lent.{placeOf, positionOf};
 ghost use Rattle.capi_bits.specs.Numbers.{lentNumber, lentSigned};
@@ -15,11 +15,14 @@ use codes::get_ref_uniform;
 use codes::get_uleb128;
 use codes::get_uniform;
 use codes::get_vlc;
+use getbits::Number;
+use getbits::Signed;
 use getbits::byte_pos;
 use getbits::bytealign;
 use getbits::get_bit;
 use getbits::get_bits;
 use getbits::get_sbits;
+use getbits::look;
 use getbits::remaining_bytes;
 use lent::place_of;
 use lent::position_of;
@@ -33,14 +36,51 @@ pub extern "C" fn mubanlig_bits_interface_2() -> u32
     2
 }
 
+// A reading is handed back: the place is stored, and the number is the answer.
+fn hand_back(r: Number, position: &mut usize, error: &mut u8) -> u32
+    ensures { λ v. ⌜ (v ∷ now (position .exit) ∷ now (error .exit) ∷ []) ≡ lentNumber r (now (error .entry)) ⌝ }
+{
+    put_place(r.next, &mut *position, &mut *error);
+    r.value
+}
+
+// The same of a signed number.
+fn hand_back_signed(r: Signed, position: &mut usize, error: &mut u8) -> i32
+    ensures { λ v. ⌜ (v ∷ pos (now (position .exit)) ∷ pos (now (error .exit)) ∷ []) ≡ lentSigned r (now (error .entry)) ⌝ }
+{
+    put_place(r.next, &mut *position, &mut *error);
+    r.value
+}
+
+// The bit length of a number.
+fn bit_length(x: u32) -> u32
+    requires { ⌜ (1 ≤ x) × (x < 2 ^ 31) ⌝ }
+    ensures { λ r. ⌜ (r ≡ bitLength x) × (1 ≤ r) × (r < 32) ⌝ }
+{
+    32 - u32::leading_zeros(x)
+}
+
+// How many numbers below x take one bit less than its bit length l.
+fn short_ones(x: u32, l: u32) -> u32
+    requires { ⌜ (l ≡ bitLength x) × (1 ≤ x) × (x < 2 ^ 31) ⌝ }
+    ensures { λ r. ⌜ r ≡ 2 ^ l - x ⌝ }
+{
+    (1 << l) - x
+}
+
 #[no_mangle]
 pub extern "C" fn mubanlig_get_bit(s: &[u8], position: &mut usize, error: &mut u8) -> u32
     ensures { λ r. ⌜ (r ∷ now (position .exit) ∷ now (error .exit) ∷ [])
         ≡ lentNumber (getBit (now (s .entry)) (placeOf (now (position .entry)) (now (error .entry)))) (now (error .entry)) ⌝ }
 {
-    let r = get_bit(s, place_of(*position, *error));
-    put_place(r.next, &mut *position, &mut *error);
-    r.value
+    let at = *position;
+    let byte = at / 8;
+    if byte < s.len() {
+        *position = std::num::wrapping_add_usize(at, 1);
+        return (s[byte] as u32 >> (7 - (at % 8) as u32)) % 2;
+    }
+    let r = get_bit(s, place_of(at, *error));
+    hand_back(r, &mut *position, &mut *error)
 }
 
 #[no_mangle]
@@ -48,9 +88,17 @@ pub extern "C" fn mubanlig_get_bits(s: &[u8], position: &mut usize, error: &mut 
     ensures { λ r. ⌜ (r ∷ now (position .exit) ∷ now (error .exit) ∷ [])
         ≡ lentNumber (getBits (now (s .entry)) (placeOf (now (position .entry)) (now (error .entry))) n) (now (error .entry)) ⌝ }
 {
-    let r = get_bits(s, place_of(*position, *error), n);
-    put_place(r.next, &mut *position, &mut *error);
-    r.value
+    let at = *position;
+    // Where eight bytes are left, no field runs out.
+    if (0 <= n) & (n < 33) {
+        if at / 8 + 8 <= s.len() {
+            let width = n as u32;
+            *position = std::num::wrapping_add_usize(at, width as usize);
+            return look(s, place_of(at, 0), width);
+        }
+    }
+    let r = get_bits(s, place_of(at, *error), n);
+    hand_back(r, &mut *position, &mut *error)
 }
 
 #[no_mangle]
@@ -59,8 +107,7 @@ pub extern "C" fn mubanlig_get_sbits(s: &[u8], position: &mut usize, error: &mut
         ≡ lentSigned (getSbits (now (s .entry)) (placeOf (now (position .entry)) (now (error .entry))) n) (now (error .entry)) ⌝ }
 {
     let r = get_sbits(s, place_of(*position, *error), n);
-    put_place(r.next, &mut *position, &mut *error);
-    r.value
+    hand_back_signed(r, &mut *position, &mut *error)
 }
 
 #[no_mangle]
@@ -69,8 +116,7 @@ pub extern "C" fn mubanlig_get_vlc(s: &[u8], position: &mut usize, error: &mut u
         ≡ lentNumber (getVlc (now (s .entry)) (placeOf (now (position .entry)) (now (error .entry)))) (now (error .entry)) ⌝ }
 {
     let r = get_vlc(s, place_of(*position, *error));
-    put_place(r.next, &mut *position, &mut *error);
-    r.value
+    hand_back(r, &mut *position, &mut *error)
 }
 
 #[no_mangle]
@@ -83,9 +129,22 @@ pub extern "C" fn mubanlig_get_uniform(
     ensures { λ r. ⌜ (r ∷ now (position .exit) ∷ now (error .exit) ∷ [])
         ≡ lentNumber (getUniform (now (s .entry)) (placeOf (now (position .entry)) (now (error .entry))) max) (now (error .entry)) ⌝ }
 {
-    let r = get_uniform(s, place_of(*position, *error), max);
-    put_place(r.next, &mut *position, &mut *error);
-    r.value
+    let at = *position;
+    if (2 <= max) & (max < 0x8000_0000) {
+        if at / 8 + 8 <= s.len() {
+            let l = bit_length(max);
+            let m = short_ones(max, l);
+            let w = look(s, place_of(at, 0), l);
+            if w / 2 < m {
+                *position = std::num::wrapping_add_usize(at, (l - 1) as usize);
+                return w / 2;
+            }
+            *position = std::num::wrapping_add_usize(at, l as usize);
+            return w - m;
+        }
+    }
+    let r = get_uniform(s, place_of(at, *error), max);
+    hand_back(r, &mut *position, &mut *error)
 }
 
 #[no_mangle]
@@ -100,8 +159,7 @@ pub extern "C" fn mubanlig_get_ref_uniform(
         ≡ lentNumber (getRefUniform (now (s .entry)) (placeOf (now (position .entry)) (now (error .entry))) max def) (now (error .entry)) ⌝ }
 {
     let r = get_ref_uniform(s, place_of(*position, *error), max, def);
-    put_place(r.next, &mut *position, &mut *error);
-    r.value
+    hand_back(r, &mut *position, &mut *error)
 }
 
 #[no_mangle]
@@ -110,8 +168,7 @@ pub extern "C" fn mubanlig_get_uleb128(s: &[u8], position: &mut usize, error: &m
         ≡ lentNumber (getUleb128 (now (s .entry)) (placeOf (now (position .entry)) (now (error .entry)))) (now (error .entry)) ⌝ }
 {
     let r = get_uleb128(s, place_of(*position, *error));
-    put_place(r.next, &mut *position, &mut *error);
-    r.value
+    hand_back(r, &mut *position, &mut *error)
 }
 
 #[no_mangle]
@@ -120,8 +177,7 @@ pub extern "C" fn mubanlig_get_golomb(s: &[u8], position: &mut usize, error: &mu
         ≡ lentNumber (getGolomb (now (s .entry)) (placeOf (now (position .entry)) (now (error .entry))) k) (now (error .entry)) ⌝ }
 {
     let r = get_golomb(s, place_of(*position, *error), k);
-    put_place(r.next, &mut *position, &mut *error);
-    r.value
+    hand_back(r, &mut *position, &mut *error)
 }
 
 #[no_mangle]
@@ -137,8 +193,7 @@ pub extern "C" fn mubanlig_get_bits_subexp_u(
         ≡ lentNumber (getBitsSubexpU (now (s .entry)) (placeOf (now (position .entry)) (now (error .entry))) «ref_val» n k) (now (error .entry)) ⌝ }
 {
     let r = get_bits_subexp_u(s, place_of(*position, *error), ref_val, n, k);
-    put_place(r.next, &mut *position, &mut *error);
-    r.value
+    hand_back(r, &mut *position, &mut *error)
 }
 
 #[no_mangle]
@@ -153,8 +208,7 @@ pub extern "C" fn mubanlig_get_bits_subexp(
         ≡ lentSigned (getBitsSubexp (now (s .entry)) (placeOf (now (position .entry)) (now (error .entry))) «ref_val» n) (now (error .entry)) ⌝ }
 {
     let r = get_bits_subexp(s, place_of(*position, *error), ref_val, n);
-    put_place(r.next, &mut *position, &mut *error);
-    r.value
+    hand_back_signed(r, &mut *position, &mut *error)
 }
 
 #[no_mangle]

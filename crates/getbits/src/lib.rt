@@ -8,6 +8,7 @@ ghost use Rattle.getbits.specs.Bits.{settled, runOut, refused, lookAt, g
 mod words;
 
 use words::peek;
+use words::within;
 
 // The byte reached, the bits of it used (0 to 7) and the reader's error.
 pub struct Place {
@@ -137,6 +138,9 @@ pub fn look(s: &[u8], p: Place, n: u32) -> u32
 {
     if n <= 32 {
         let q = settle(s, p);
+        if 8 <= s.len() - q.byte {
+            return within(s, q.byte, q.used, n);
+        }
         return peek(s, q.byte, q.used, n);
     }
     0

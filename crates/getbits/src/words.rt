@@ -34,12 +34,24 @@ fn half_near_end(s: &[u8], i: usize) -> u64
     at(s, i) * 0x100_0000 + at(s, i + 1) * 0x1_0000 + at(s, i + 2) * 0x100 + at(s, i + 3)
 }
 
-// The n bits of the 64 bits of w behind its first `used` ones.
+// The n bits of the 64 bits of w behind its first `used` ones: one shift drops what stands before them, two what stands behind.
 fn field(w: u64, used: u32, n: u32) -> u32
     requires { ⌜ (used < 8) × (n ≤ 32) ⌝ }
     ensures { λ r. ⌜ r ≡ w / 2 ^ (64 - (used + n)) % 2 ^ n ⌝ }
 {
-    ((w >> 1 >> (63 - (used + n))) % (1u64 << n)) as u32
+    (w << used >> 1 >> (63 - n)) as u32
+}
+
+// The n bits behind the first `used` ones of the byte, where eight bytes are there. It is inlined in its callers.
+pub fn within(s: &[u8], byte: usize, used: u32, n: u32) -> u32
+    requires { ⌜ (byte + 8 ≤ length (now s)) × (used < 8) × (n ≤ 32) ⌝ }
+    ensures { λ r. ⌜ r ≡ bitsAt (now (s .entry)) (8 * byte + used) n ⌝ }
+{
+    field(
+        half_within(s, byte) * 0x1_0000_0000 + half_within(s, byte + 4),
+        used,
+        n,
+    )
 }
 
 // The n bits behind the first `used` ones of the byte, with 0 for each past the end: they stand in eight bytes.
@@ -48,11 +60,7 @@ pub fn peek(s: &[u8], byte: usize, used: u32, n: u32) -> u32
     ensures { λ r. ⌜ r ≡ bitsAt (now (s .entry)) (8 * byte + used) n ⌝ }
 {
     if 8 <= s.len() - byte {
-        field(
-            half_within(s, byte) * 0x1_0000_0000 + half_within(s, byte + 4),
-            used,
-            n,
-        )
+        within(s, byte, used, n)
     } else {
         field(
             half_near_end(s, byte) * 0x1_0000_0000 + half_near_end(s, byte + 4),

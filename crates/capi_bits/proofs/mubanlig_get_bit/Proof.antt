@@ -1,14 +1,31 @@
 -- `capi_bits::mubanlig_get_bit` meets its contract. Assumes nothing.
+use mathlib.Core.Path.{refl, ap, _∙_}
+use Prim.Native.Nat.{_/_}
+use native.Mathlib.Omega.{arith}
+use Prim.Native.Nat.{_/_}
+use native.Mathlib.Omega.{arith}
+use mathlib.Core.Path.{ap, _∙_}
 use borrow.Author.Needs.{needs}
-use Rattle.capi_bits.proofs.Handed.{handed}
+use Rattle.getbits.specs.declared.Number.{Number}
+use Rattle.capi_bits.specs.Numbers.{lentNumber}
+use Rattle.capi_bits.proofs.Ahead.{bit-on}
 use Rattle.capi_bits.proofs.mubanlig_get_bit.Statement.{statement}
 use Rattle.capi_bits.proofs.mubanlig_get_bit.Tie as tie
 
+cast-result : tie.Need-cast-result
+cast-result c = omega (arith, c .shared-slice-known2 .given (c .before .before .before .before .before .args .position .now / 8))
+
 returns : tie.Need-returns
 returns c =
+    let k = c .before in
+    let a = k .before .before .before .before .args in
+    bit-on (a .s .now) (a .position .now) (a .error .now) (search needs) refl (k .wrapping-add-usize .ensures)
+
+returns-2 : tie.Need-returns-2
+returns-2 c =
     let k = c .before .before .before in
-    let start = k .before .before .before .before .before in
-    handed (k .get-bit .result) _ (start .args .error .now) (rw (k .before .place-of .ensures) at (k .get-bit .ensures)) (c .put-place .ensures)
+    let start = k .before .before .before .before .before .before in
+    c .hand-back .ensures ∙ ap (λ (x : Number). lentNumber x (start .args .error .now)) (rw (k .before .place-of .ensures) at (k .get-bit .ensures))
 
 pub mubanlig-get-bit-spec : {M : Type 1} → statement M
-mubanlig-get-bit-spec = tie.close (tie.spec (λ c κs. search needs) (λ c κs. search needs) (λ c κs. search needs) returns)
+mubanlig-get-bit-spec = tie.close (tie.spec (λ c κs. search needs) (λ c. search needs) cast-result (λ c. search needs) (λ c. search needs) (λ c. search needs) returns (λ c κs. search needs) (λ c κs. search needs) (λ c κs. search needs) returns-2)

@@ -7,19 +7,11 @@ use Rattle.getbits.proofs.Fields.{word-field}
 use Rattle.getbits.proofs.words.peek.Statement.{statement}
 use Rattle.getbits.proofs.words.peek.Tie as tie
 
-returns : tie.Need-returns
-returns c =
-    let k = c .before .before .before .before in
-    let a = k .before .args in
-    c .field .ensures
-    ∙ ap (λ (w : ℕ). w / 2 ^ (64 - (a .used + a .n)) % 2 ^ a .n) (omega arith)
-    ∙ word-field (a .s .now) (a .byte) (a .used) (a .n) (λ i. omega (arith, k .shared-slice-known .given i)) (omega arith) (omega arith)
-
 returns-2 : tie.Need-returns-2
 returns-2 c =
     let k = c .before .before .before .before in
     let a = k .before .args in
-    c .field2 .ensures
+    c .field .ensures
     ∙ ap (λ (w : ℕ). w / 2 ^ (64 - (a .used + a .n)) % 2 ^ a .n) (omega arith)
     ∙ word-field (a .s .now) (a .byte) (a .used) (a .n) (λ i. omega (arith, k .shared-slice-known .given i)) (omega arith) (omega arith)
 
@@ -29,16 +21,11 @@ peek-spec =
     (tie.spec
     (λ c. search needs)
     (λ c κs. search needs)
-    (λ c. search needs)
-    (λ c. search needs)
-    (λ c κs. search needs)
-    (λ c. search needs)
-    (λ c κs. search needs)
     (λ c κs. search needs)
     (λ c. search needs)
     (λ c. search needs)
     (λ c κs. search needs)
     (λ c. search needs)
     (λ c κs. search needs)
-    returns
+    (λ c. search needs)
     returns-2)
