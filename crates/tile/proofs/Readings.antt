@@ -1,0 +1,25 @@
+-- Document 01's listing, and the empty input, computed. Assumes nothing.
+use lib.Count.{leadingZeros}
+use mathlib.Core.List.{[], _∷_}
+use mathlib.Core.Path.{_≡_, refl}
+use Rattle.getbits.specs.Chain.{then, turns}
+use Rattle.getbits.specs.Bits.{bitsAt, position, readBits, getBit, getBits, getFlag}
+use Rattle.codes.specs.Codes.{runOf, getUniform}
+use Rattle.tile_layout.specs.Limits.{inDomain, superblocks, widthLimit, areaLimit, doublings, minLog2Cols, maxLog2Cols, maxLog2Rows, minLog2Tiles}
+use Rattle.tile_layout.specs.Layout.{tabulate, fullCount, base, count, larger, startAt, readLog2, uniformInfo, uniformLayout, readSizes, sum, widest, startsFrom}
+use Rattle.tile_layout.specs.Layout.{rowArea, rowLimit, readCols, readRows, nonUniformInfo, nonUniformLayout, parseTileInfo}
+use Rattle.text.specs.Text.{word, decimal, decimalIn, nexts, row}
+use Rattle.tile.specs.Request.{tileRequest}
+use Rattle.tile.specs.Print.{headText, layoutText, refusalText, readText, tileText}
+
+listing : tileText (0xFF ∷ 0x00 ∷ 0x7F ∷ 0x00 ∷ 0 ∷ 0 ∷ 0 ∷ 0 ∷ 0x28 ∷ []) ≡ word "ok N 3 1 5 0\n0 2 3 4\n0 2\n"
+unfolding leadingZeros then turns bitsAt position readBits getBit getBits getFlag runOf getUniform
+    inDomain superblocks widthLimit areaLimit doublings minLog2Cols maxLog2Cols maxLog2Rows minLog2Tiles
+    tabulate fullCount base count larger startAt readLog2 uniformInfo uniformLayout readSizes sum widest startsFrom
+    rowArea rowLimit readCols readRows nonUniformInfo nonUniformLayout parseTileInfo
+    word decimal decimalIn nexts row tileRequest headText layoutText refusalText readText tileText
+listing = refl
+
+nothing : tileText [] ≡ word "no 4\n"
+unfolding word decimal decimalIn nexts tileRequest refusalText readText tileText
+nothing = refl
