@@ -1,17 +1,17 @@
 -- What the program frame reads from its input: a sequence header with its length in front, a frame's type and size, and tiling bits.
 use mathlib.Core.Bool.{Bool, _&&_, false}
 use mathlib.Core.List.{List}
-use Prim.Native.Nat.{ℕ, _+_, _*_}
+use Prim.Native.Nat.{ℕ, _+_}
 use lib.Dec.{leb, eqb}
 use lib.IntN.{pos}
-use lib.ListN.{length, getD, take, drop}
+use lib.ListN.{length, take, drop}
 use Rattle.answers.specs.Numbers.{isRefusal}
 use Rattle.answers.specs.declared.Answer.{Answer}
 use Rattle.answers.specs.declared.Answer.the-variants.{WrongArguments}
 use Rattle.getbits.specs.Bits.{placeAt}
 use Rattle.getbits.specs.Chain.{pick, then}
+use Rattle.program.specs.Input.{byteAt, twoAt, isInput}
 use Rattle.tile_layout.specs.Limits.{noTileInfo}
-use Rattle.seq_record.specs.declared.SequenceHeader.{SequenceHeader}
 use Rattle.seq_hdr.specs.Header.{parseSeqHdr}
 use Rattle.frame_hdr.specs.declared.FrameHeader.{FrameHeader}
 use Rattle.frame_hdr.specs.declared.FrameRead.{FrameRead}
@@ -20,17 +20,13 @@ use Rattle.frame_hdr.specs.declared.FrameType.the-variants.{Key, Inter, Intra, 
 use Rattle.frame_hdr.specs.Frame.{parseTileInfoFrmhdr}
 use Rattle.frame_hdr.specs.Sequence.{seqLayout}
 
--- a number of two bytes, little-endian
-abbrev pub twoAt : List ℕ → ℕ → ℕ
-twoAt s i = getD s i 0 + 256 * getD s (i + 1) 0
-
 -- where the frame begins: behind the header's length L and L bytes of header
 abbrev pub frameAt : List ℕ → ℕ
 frameAt s = twoAt s 0 + 2
 
 -- types 0 to 3: key, inter, intra, switch
-abbrev pub typeOf : ℕ → FrameType
-typeOf n = pick (eqb n 0) Key (pick (eqb n 1) Inter (pick (eqb n 2) Intra Switch))
+abbrev pub frameTypeOf : ℕ → FrameType
+frameTypeOf n = pick (eqb n 0) Key (pick (eqb n 1) Inter (pick (eqb n 2) Intra Switch))
 
 -- a frame of a type and a size, with the zero layout
 abbrev pub frameOf : FrameType → ℕ → ℕ → FrameHeader
@@ -38,11 +34,11 @@ frameOf t w h = record { «frame_type» = t; width = pos w; height = pos h; sb12
 
 -- the frame's type, width - 1 and height - 1
 abbrev pub givenFrame : List ℕ → FrameHeader
-givenFrame s = frameOf (typeOf (getD s (frameAt s) 0)) (twoAt s (frameAt s + 1) + 1) (twoAt s (frameAt s + 3) + 1)
+givenFrame s = frameOf (frameTypeOf (byteAt s (frameAt s))) (twoAt s (frameAt s + 1) + 1) (twoAt s (frameAt s + 3) + 1)
 
 -- 65,536 bytes at most, nothing missing before the tiling bits, and a type of 0 to 3
 abbrev pub isRequest : List ℕ → Bool
-isRequest s = (leb (length s) 65536 && leb (frameAt s + 5) (length s)) && leb (getD s (frameAt s) 0) 3
+isRequest s = (isInput s && leb (frameAt s + 5) (length s)) && leb (byteAt s (frameAt s)) 3
 
 -- a refusal before the frame: its record is a key frame of 1 by 1
 abbrev pub noFrame : Answer → FrameRead

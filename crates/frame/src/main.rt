@@ -1,9 +1,11 @@
 // Reads a sequence header, a frame's type and size and tiling bits from standard input, and prints the frame's layout.
 ghost use mathlib.Core.Path.{_≡_};
-ghost use mathlib.Core.Bool.{true};
-ghost use Prim.Native.Nat.{_+_, _*_, _^_, _<_, _≤_};
-ghost use lib.ListN.{length, getD};
-ghost use Rattle.frame.specs.Request.{twoAt, frameAt, typeOf, frameOf, givenFrame, isRequest, noFrame, frameRequest};
+ghost use Prim.Native.Nat.{_+_, _<_, _≤_};
+ghost use lib.ListN.{take};
+ghost use Rattle.io.specs.Counts.{Counts};
+ghost use Rattle.text.specs.Text.{Put};
+ghost use Rattle.frame.specs.Print.{headText, startsText, logsText, layoutText, readText, frameText};
+ghost use Rattle.frame.specs.Request.{frameAt, frameTypeOf, frameOf, givenFrame, isRequest, noFrame, frameRequest};
 use answers::Answer;
 use answers::is_refusal;
 use answers::number;
@@ -12,36 +14,22 @@ use frame_hdr::FrameRead;
 use frame_hdr::FrameType;
 use frame_hdr::parse_tile_info_frmhdr;
 use getbits::Place;
+use lent::position_of;
 use libc::STDIN_FILENO;
 use libc::STDOUT_FILENO;
+use program::byte_at;
+use program::is_input;
+use program::put_accepted;
+use program::put_refused;
+use program::report_written;
+use program::two_at;
 use seq_hdr::parse_seq_hdr;
-use seq_record::SequenceHeader;
+use text::put_row;
 use tile_layout::TileInfo;
 use tile_layout::no_tile_info;
 
-fn wide(x: u8) -> usize
-    ensures { λ r. ⌜ (r ≡ x) × (r < 256) ⌝ }
-{
-    x as usize
-}
-
-// The byte at i, and 0 past the end.
-fn at(s: &[u8], i: usize) -> usize
-    ensures { λ r. ⌜ (r ≡ getD (now (s .entry)) i 0) × (r < 256) ⌝ }
-{
-    if i < s.len() { wide(s[i]) } else { 0 }
-}
-
-// Two bytes, the low one first.
-fn two(s: &[u8], i: usize) -> usize
-    requires { ⌜ i < 2 ^ 32 ⌝ }
-    ensures { λ r. ⌜ (r ≡ twoAt (now (s .entry)) i) × (r < 65536) ⌝ }
-{
-    at(s, i) + 256 * at(s, i + 1)
-}
-
-fn type_of(n: usize) -> FrameType
-    ensures { λ r. ⌜ r ≡ typeOf n ⌝ }
+fn frame_type_of(n: u8) -> FrameType
+    ensures { λ r. ⌜ r ≡ frameTypeOf n ⌝ }
 {
     match n {
         0 => FrameType::Key,
@@ -70,20 +58,20 @@ fn given_frame(s: &[u8], at_frame: usize) -> FrameHeader
     requires { ⌜ («at_frame» ≡ frameAt (now s)) × («at_frame» < 65538) ⌝ }
     ensures { λ r. ⌜ r ≡ givenFrame (now (s .entry)) ⌝ }
 {
-    let frame_type = type_of(at(s, at_frame));
+    let frame_type = frame_type_of(byte_at(s, at_frame));
     frame_of(
         frame_type,
-        two(s, at_frame + 1) + 1,
-        two(s, at_frame + 3) + 1,
+        two_at(s, at_frame + 1) + 1,
+        two_at(s, at_frame + 3) + 1,
     )
 }
 
 fn is_request(s: &[u8]) -> bool
     ensures { λ r. ⌜ r ≡ isRequest (now (s .entry)) ⌝ }
 {
-    let at_frame = two(s, 0) + 2;
-    let kind = at(s, at_frame);
-    ((s.len() <= 65536) & (at_frame + 5 <= s.len())) & (kind <= 3)
+    let at_frame = two_at(s, 0) + 2;
+    let kind = byte_at(s, at_frame);
+    (is_input(s) & (at_frame + 5 <= s.len())) & (kind <= 3)
 }
 
 fn no_frame(answer: Answer) -> FrameRead
@@ -112,7 +100,7 @@ fn request(s: &[u8]) -> FrameRead
         used: 0,
         error: false,
     };
-    let at_frame = two(s, 0) + 2;
+    let at_frame = two_at(s, 0) + 2;
     let q = parse_seq_hdr(&s[2..at_frame], start, false);
     let answer = q.answer;
     if is_refusal(answer) {
@@ -123,100 +111,76 @@ fn request(s: &[u8]) -> FrameRead
     parse_tile_info_frmhdr(&s[bits..], start, given_frame(s, at_frame), seqhdr)
 }
 
-// The bits before a place of an input.
-fn bits_used(p: Place) -> u64 {
-    if p.byte < 65537 {
-        if p.used < 8 {
-            return 8 * (p.byte as u64) + p.used as u64;
-        }
+fn put_head(out: &mut [u8], t: TileInfo, next: Place, sb128: u8) -> usize
+    ensures { λ r. ⌜ Put 110 (now (out .entry)) 0 (headText t next sb128) (now (out .exit)) r ⌝ }
+{
+    let xs = [
+        t.cols as u64,
+        t.rows as u64,
+        position_of(next) as u64,
+        next.error as u64,
+        sb128 as u64,
+    ];
+    put_accepted(out, 0, t.uniform, &xs)
+}
+
+// All 65 starts.
+fn put_starts(out: &mut [u8], at: usize, starts: &[u16; 65]) -> usize
+    ensures { λ r. ⌜ Put 1366 (now (out .entry)) at (startsText (now (starts .entry))) (now (out .exit)) r ⌝ }
+{
+    put_row(out, at, starts, 65)
+}
+
+fn put_logs(out: &mut [u8], at: usize, t: TileInfo) -> usize
+    ensures { λ r. ⌜ Put 127 (now (out .entry)) at (logsText t) (now (out .exit)) r ⌝ }
+{
+    let logs = [
+        t.min_log2_cols as u16,
+        t.max_log2_cols as u16,
+        t.log2_cols as u16,
+        t.min_log2_rows as u16,
+        t.max_log2_rows as u16,
+        t.log2_rows as u16,
+    ];
+    put_row(out, at, &logs, 6)
+}
+
+fn put_layout(out: &mut [u8], t: TileInfo, next: Place, sb128: u8) -> usize
+    ensures { λ r. ⌜ Put 2969 (now (out .entry)) 0 (layoutText t next sb128) (now (out .exit)) r ⌝ }
+{
+    let cols = t.col_start_sb;
+    let rows = t.row_start_sb;
+    let head = put_head(out, t, next, sb128);
+    let first = put_starts(out, head, &cols);
+    let second = put_starts(out, first, &rows);
+    put_logs(out, second, t)
+}
+
+fn put_read(out: &mut [u8], r: FrameRead) -> usize
+    ensures { λ n. ⌜ Put 2969 (now (out .entry)) 0 (readText r) (now (out .exit)) n ⌝ }
+{
+    let answer = r.answer;
+    if is_refusal(answer) {
+        return put_refused(out, 0, number(answer));
     }
-    0
+    let hdr = r.hdr;
+    let tiling = hdr.tiling;
+    let next = r.next;
+    put_layout(out, tiling, next, hdr.sb128)
 }
 
-fn print(text: &[u8]) {
-    io::write_all(STDOUT_FILENO, text);
-}
-
-fn print_number(n: u64) {
-    io::print_decimal(STDOUT_FILENO, n);
-}
-
-// A blank and a number.
-fn print_next(n: u64) {
-    print(b" ");
-    print_number(n);
-}
-
-fn print_start(starts: &[u16], i: usize) {
-    if i < starts.len() {
-        print_number(starts[i] as u64);
-    }
-}
-
-fn print_blank_and_start(starts: &[u16], i: usize) {
-    print(b" ");
-    print_start(starts, i);
-}
-
-// All of the starts.
-fn print_starts(starts: &[u16]) {
-    print_start(starts, 0);
-    for i in 1..65 {
-        print_blank_and_start(starts, i);
-    }
-}
-
-fn print_line(starts: [u16; 65]) {
-    print_starts(&starts);
-    print(b"\n");
-}
-
-fn print_logs(t: TileInfo) {
-    print_number(t.min_log2_cols as u64);
-    print_next(t.max_log2_cols as u64);
-    print_next(t.log2_cols as u64);
-    print_next(t.min_log2_rows as u64);
-    print_next(t.max_log2_rows as u64);
-    print_next(t.log2_rows as u64);
-    print(b"\n");
-}
-
-fn print_kind(uniform: bool) {
-    if uniform {
-        print(b"ok U");
-    } else {
-        print(b"ok N");
-    }
-}
-
-fn print_frame(hdr: FrameHeader, next: Place) {
-    let t = hdr.tiling;
-    print_kind(t.uniform);
-    print_next(t.cols as u64);
-    print_next(t.rows as u64);
-    print_next(bits_used(next));
-    print_next(next.error as u64);
-    print_next(hdr.sb128 as u64);
-    print(b"\n");
-    let col_start_sb = t.col_start_sb;
-    let row_start_sb = t.row_start_sb;
-    print_line(col_start_sb);
-    print_line(row_start_sb);
-    print_logs(t);
+// From the input's bytes to the output's.
+fn frame_text(input: &[u8], out: &mut [u8; 2969]) -> usize
+    ensures { λ r. ⌜ Counts r (now (out .exit)) ⌝ }
+    ensures { λ r. ⌜ take r (now (out .exit)) ≡ frameText (now (input .entry)) ⌝ }
+{
+    put_read(out, request(input))
 }
 
 fn main() {
     let mut input = [0u8; 65537];
     let n = io::read_full(STDIN_FILENO, &mut input);
-    let r = request(&input[..n]);
-    let answer = r.answer;
-    if is_refusal(answer) {
-        print(b"no ");
-        print_number(number(answer) as u64);
-        print(b"\n");
-    } else {
-        let hdr = r.hdr;
-        let next = r.next;
-        print_frame(hdr, next);
-    }
+    let mut out = [0u8; 2969];
+    let k = frame_text(&input[..n], &mut out);
+    report_written(io::write_all(STDOUT_FILENO, &out[..k]));
 }

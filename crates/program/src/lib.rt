@@ -1,8 +1,12 @@
-// What the programs share: numbers in their input, its limit, and what is said where the output can't be written.
+// What the programs share: numbers in their input, its limit, lines that they print alike, and what is said where the output can't be written.
 ghost use mathlib.Core.Path.{_≡_};
-ghost use Prim.Native.Nat.{_<_};
+ghost use Prim.Native.Nat.{_+_, _*_, _<_};
+ghost use lib.ListN.{length};
+ghost use Rattle.text.specs.Text.{Put};
 ghost use Rattle.program.specs.Input.{byteAt, twoAt, isInput};
+ghost use Rattle.program.specs.Output.{acceptedText, refusedText};
 use libc::STDERR_FILENO;
+use text::put_line;
 
 pub fn byte_at(s: &[u8], i: usize) -> u8
     ensures { λ r. ⌜ r ≡ byteAt (now (s .entry)) i ⌝ }
@@ -29,6 +33,21 @@ pub fn is_input(s: &[u8]) -> bool
     ensures { λ r. ⌜ r ≡ isInput (now (s .entry)) ⌝ }
 {
     s.len() <= 65536
+}
+
+pub fn put_accepted(out: &mut [u8], at: usize, uniform: bool, xs: &[u64]) -> usize
+    ensures { λ r. ⌜ Put (4 + (21 * length (now (xs .entry)) + 1)) (now (out .entry)) at (acceptedText uniform (now (xs .entry))) (now (out .exit)) r ⌝ }
+{
+    if uniform {
+        return put_line(out, at, b"ok U", xs);
+    }
+    put_line(out, at, b"ok N", xs)
+}
+
+pub fn put_refused(out: &mut [u8], at: usize, n: u32) -> usize
+    ensures { λ r. ⌜ Put 24 (now (out .entry)) at (refusedText n) (now (out .exit)) r ⌝ }
+{
+    put_line(out, at, b"no", &[n as u64])
 }
 
 // Where the output could not be written, says so on standard error. `written` is what io::write_all answered.

@@ -6,7 +6,8 @@ use Rattle.answers.specs.Numbers.{numberOf, isRefusal}
 use Rattle.getbits.specs.Chain.{pick}
 use Rattle.getbits.specs.declared.Place.{Place}
 use Rattle.lent.specs.Lent.{positionOf}
-use Rattle.text.specs.Text.{word, nexts, row, line}
+use Rattle.program.specs.Output.{acceptedText, refusedText}
+use Rattle.text.specs.Text.{row, line}
 use Rattle.tile_layout.specs.declared.TileInfo.{TileInfo}
 use Rattle.tile_layout.specs.declared.TileRead.{TileRead}
 use Rattle.tile.specs.Request.{tileRequest}
@@ -14,7 +15,7 @@ use Rattle.tile.specs.Request.{tileRequest}
 -- the first line: ok, U or N, columns, rows, tiling bits used, reader error 0 or 1
 unfoldable pub headText : TileInfo → Place → List ℕ
 headText t next =
-    line (pick (t .uniform) (word "ok U") (word "ok N") ++ nexts (t .cols ∷ t .rows ∷ positionOf next ∷ pick (next .error) 1 0 ∷ []))
+    acceptedText (t .uniform) (t .cols ∷ t .rows ∷ positionOf next ∷ pick (next .error) 1 0 ∷ [])
 
 -- all n starts with the closing one
 abbrev pub startsText : List ℕ → ℕ → List ℕ
@@ -24,13 +25,9 @@ startsText starts n = line (row (take (n + 1) starts))
 unfoldable pub layoutText : TileInfo → Place → List ℕ
 layoutText t next = headText t next ++ (startsText (t .«col_start_sb») (t .cols) ++ startsText (t .«row_start_sb») (t .rows))
 
--- refused, one line: no and the number
-unfoldable pub refusalText : ℕ → List ℕ
-refusalText n = line (word "no" ++ nexts (n ∷ []))
-
 -- what is printed of a reading
 unfoldable pub readText : TileRead → List ℕ
-readText r = pick (isRefusal (r .answer)) (refusalText (numberOf (r .answer))) (layoutText (r .info) (r .next))
+readText r = pick (isRefusal (r .answer)) (refusedText (numberOf (r .answer))) (layoutText (r .info) (r .next))
 
 -- what is printed of an input
 unfoldable pub tileText : List ℕ → List ℕ

@@ -4,7 +4,7 @@ ghost use lib.IntN.{pos};
 ghost use lib.ListN.{take};
 ghost use Rattle.io.specs.Counts.{Counts};
 ghost use Rattle.text.specs.Text.{Put};
-ghost use Rattle.tile.specs.Print.{headText, startsText, layoutText, refusalText, readText, tileText};
+ghost use Rattle.tile.specs.Print.{headText, startsText, layoutText, readText, tileText};
 ghost use Rattle.tile.specs.Request.{samplesAt, multiplierOf, isRequest, tileRequest};
 use answers::Answer;
 use answers::is_refusal;
@@ -14,9 +14,10 @@ use lent::position_of;
 use libc::STDIN_FILENO;
 use libc::STDOUT_FILENO;
 use program::is_input;
+use program::put_accepted;
+use program::put_refused;
 use program::report_written;
 use program::two_at;
-use text::put_line;
 use text::put_row;
 use tile_info::parse_tile_info;
 use tile_layout::TileInfo;
@@ -91,10 +92,7 @@ fn put_head(out: &mut [u8], t: TileInfo, next: Place) -> usize
         position_of(next) as u64,
         next.error as u64,
     ];
-    if t.uniform {
-        return put_line(out, 0, b"ok U", &xs);
-    }
-    put_line(out, 0, b"ok N", &xs)
+    put_accepted(out, 0, t.uniform, &xs)
 }
 
 // The n starts and the closing one.
@@ -114,18 +112,12 @@ fn put_layout(out: &mut [u8], t: TileInfo, next: Place) -> usize
     put_starts(out, first, &rows, t.rows)
 }
 
-fn put_refusal(out: &mut [u8], n: u32) -> usize
-    ensures { λ r. ⌜ Put 24 (now (out .entry)) 0 (refusalText n) (now (out .exit)) r ⌝ }
-{
-    put_line(out, 0, b"no", &[n as u64])
-}
-
 fn put_read(out: &mut [u8], r: TileRead) -> usize
     ensures { λ n. ⌜ Put 10843 (now (out .entry)) 0 (readText r) (now (out .exit)) n ⌝ }
 {
     let answer = r.answer;
     if is_refusal(answer) {
-        return put_refusal(out, number(answer));
+        return put_refused(out, 0, number(answer));
     }
     let info = r.info;
     let next = r.next;

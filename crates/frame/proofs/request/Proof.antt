@@ -9,7 +9,8 @@ use borrow.Author.Needs.{needs}
 use lib.Seq.{take-all}
 use lib.ListN.{length, getD, take, drop, length-drop}
 use lib.Dec.{leb}
-use Rattle.frame.specs.Request.{twoAt, frameAt, isRequest, frameRequest}
+use Rattle.program.specs.Input.{twoAt}
+use Rattle.frame.specs.Request.{frameAt, isRequest, frameRequest}
 use Rattle.frame_hdr.specs.Sequence.{seqLayout}
 use Rattle.frame_hdr.specs.Frame.{parseTileInfoFrmhdr}
 use Rattle.frame_hdr.specs.declared.FrameHeader.{FrameHeader}
@@ -34,7 +35,7 @@ header : (q : tie.After-parse-seq-hdr) → (let s = q .before .before .before .b
     q .parse-seq-hdr .result ≡ parseSeqHdr (take (twoAt s 0) (drop 2 s)) (placeAt 0 false) false)
 header q =
     let s = q .before .before .before .before .before .before .args .s .now in
-    let n = q .before .before .two in
+    let n = q .before .before .two-at in
     let e : n .result + 2 - 2 ≡ twoAt s 0 = omega (arith, n .ensures .0) in
     q .parse-seq-hdr .ensures .0 ∙ ap (λ (x : ℕ). parseSeqHdr (take x (drop 2 s)) (placeAt 0 false) false) e
 
@@ -45,7 +46,7 @@ returns c =
     c .no-frame .ensures ∙ sym (left _ _ _ (sym (k .is-request .ensures) ∙ not-true _ (c .before .if1 .taken)))
 
 part-parse-seq-hdr-end : tie.Need-part-parse-seq-hdr-end
-part-parse-seq-hdr-end c = omega (arith, long (c .before), c .two .ensures .0)
+part-parse-seq-hdr-end c = omega (arith, long (c .before), c .two-at .ensures .0)
 
 returns-2 : tie.Need-returns-2
 unfolding frameRequest
@@ -55,10 +56,10 @@ returns-2 c =
     ∙ sym (taken _ _ _ (good (q .before .before .before)) ∙ through _ _ (header q) ∙ taken _ _ _ (sym (c .before .before .is-refusal .ensures) ∙ c .before .if2 .taken))
 
 sub-parse-tile-info-frmhdr : tie.Need-sub-parse-tile-info-frmhdr
-sub-parse-tile-info-frmhdr c = omega (arith, long (c .before .before .before .before .before .before), c .before .before .before .before .before .two .ensures .0)
+sub-parse-tile-info-frmhdr c = omega (arith, long (c .before .before .before .before .before .before), c .before .before .before .before .before .two-at .ensures .0)
 
 part-parse-tile-info-frmhdr-start : tie.Need-part-parse-tile-info-frmhdr-start
-part-parse-tile-info-frmhdr-start c = omega (arith, long (c .before .before .before .before .before .before), c .before .before .before .before .before .two .ensures .0)
+part-parse-tile-info-frmhdr-start c = omega (arith, long (c .before .before .before .before .before .before), c .before .before .before .before .before .two-at .ensures .0)
 
 returns-3 : tie.Need-returns-3
 unfolding frameRequest
@@ -66,7 +67,7 @@ returns-3 c =
     let q = c .before .before .before .before .before .before in
     let k = q .before .before .before in
     let s = k .before .before .before .args .s .now in
-    let n = q .before .before .two in
+    let n = q .before .before .two-at in
     let g = c .before .given-frame in
     let at : n .result + 2 + 5 ≡ frameAt s + 5 = omega (arith, n .ensures .0) in
     let rest : take (length s - (n .result + 2 + 5)) (drop (n .result + 2 + 5) s) ≡ drop (frameAt s + 5) s =

@@ -11,7 +11,7 @@ unfolding readText
 returns c =
     let p = c .before .before in
     let t = p .before .before .before in
-    rw (← t .before .is-refusal .ensures, t .if1 .taken, ← p .before .number .ensures) (within (omega arith) (p .put-refusal .ensures))
+    rw (← t .before .is-refusal .ensures, t .if1 .taken, ← p .before .number .ensures) (within (omega arith) (p .put-refused .ensures))
 
 returns-2 : tie.Need-returns-2
 unfolding readText

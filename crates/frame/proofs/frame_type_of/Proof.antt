@@ -1,7 +1,7 @@
--- `frame::type_of` meets its contract. Assumes nothing.
+-- `frame::frame_type_of` meets its contract. Assumes nothing.
 use borrow.Author.Tests.{ne-eqb}
-use Rattle.frame.proofs.type_of.Statement.{statement}
-use Rattle.frame.proofs.type_of.Tie as tie
+use Rattle.frame.proofs.frame_type_of.Statement.{statement}
+use Rattle.frame.proofs.frame_type_of.Tie as tie
 
 returns : tie.Need-returns
 returns c = rw (c .match .keys1)
@@ -18,5 +18,5 @@ returns-4 c =
     let r = c .match .rest in
     rw (ne-eqb n 0 (r .0 .0 .1), ne-eqb n 1 (r .0 .1), ne-eqb n 2 (r .1))
 
-pub type-of-spec : {M : Type 1} → statement M
-type-of-spec = tie.close (tie.spec returns returns-2 returns-3 returns-4)
+pub frame-type-of-spec : {M : Type 1} → statement M
+frame-type-of-spec = tie.close (tie.spec returns returns-2 returns-3 returns-4)

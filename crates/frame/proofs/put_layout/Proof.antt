@@ -1,0 +1,26 @@
+-- `frame::put_layout` meets its contract. Assumes nothing.
+use borrow.Author.Needs.{needs}
+use Rattle.text.proofs.Puts.{also}
+use Rattle.frame.specs.Print.{layoutText}
+use Rattle.frame.proofs.put_layout.Statement.{statement}
+use Rattle.frame.proofs.put_layout.Tie as tie
+
+returns : tie.Need-returns
+unfolding layoutText
+returns c =
+    let logs = c .before .before in
+    let rows = logs .before .before .before .before in
+    let cols = rows .before .before .before .before .before in
+    let head = cols .before .before .before .before .before in
+    also (head .put-head .ensures) (also (cols .put-starts .ensures) (also (rows .put-starts2 .ensures) (logs .put-logs .ensures)))
+
+pub put-layout-spec : {M : Type 1} → statement M
+put-layout-spec =
+    tie.close
+    (tie.spec
+    (λ c κs. search needs)
+    (λ c κs. search needs)
+    (λ c κs. search needs)
+    (λ c κs. search needs)
+    (λ c. search needs)
+    returns)
