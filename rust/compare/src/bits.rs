@@ -49,6 +49,13 @@ impl BitWriter {
         }
     }
 
+    /// The bits of another row.
+    pub fn append(&mut self, other: &Self) {
+        for i in 0..other.used {
+            self.bit(other.bytes[i / 8] >> (7 - i % 8) & 1 != 0);
+        }
+    }
+
     /// Drops all but the first n bits.
     pub fn truncate(&mut self, n: usize) {
         if n < self.used {

@@ -1,8 +1,31 @@
 //! A case: what an operation is called on. An outcome: what it answers.
 
 use crate::kind::Kind;
-use crate::rules::Rule;
-use mubanlig::Place;
+use crate::rule::Rule;
+
+/// The byte reached, the bits of it used, and the reader's error.
+#[derive(Debug, Clone, Copy, Default, PartialEq, Eq)]
+pub struct Place {
+    pub byte: usize,
+    pub used: u32,
+    pub error: bool,
+}
+
+impl Place {
+    /// The place behind so many bits.
+    pub fn behind(bits: usize) -> Self {
+        Self {
+            byte: bits / 8,
+            used: (bits % 8) as u32,
+            error: false,
+        }
+    }
+
+    /// The bits before it.
+    pub fn bits(self) -> usize {
+        8 * self.byte + self.used as usize
+    }
+}
 
 /// The arguments are numbers in the order of the C interface; a record is given number by number.
 #[derive(Debug, Clone, Default, PartialEq)]
@@ -11,6 +34,8 @@ pub struct Case {
     pub data: Vec<u8>,
     pub place: Place,
     pub args: Vec<i64>,
+    /// The lengths of the lent buffers, or nothing where each has its full length.
+    pub lent: Vec<i64>,
 }
 
 impl Case {

@@ -1,10 +1,9 @@
 //! All inputs of up to two bytes, from every place in them and with arguments at every boundary.
 
-use crate::case::Case;
+use crate::case::{Case, Place};
 use crate::kind::Kind;
 use crate::make::layouts::PAIRS;
 use crate::records::{SEG, TILE};
-use mubanlig::Place;
 
 /// Every input of some lengths, from every place, with every row of arguments.
 struct Block {
@@ -51,7 +50,7 @@ impl Exhaustive {
             args,
         };
         let blocks = match kind {
-            Kind::Rows | Kind::TileRectangles => vec![],
+            Kind::Rows | Kind::TileRectangles | Kind::Callers => vec![],
             Kind::ParseSeqHdr => vec![block(vec![vec![0], vec![1]], few_places())],
             Kind::ParseSegInfo => vec![block(seg_args(), few_places())],
             Kind::ParseTileInfoFrmhdr => vec![block(frame_args(), few_places())],

@@ -20,14 +20,16 @@ pub enum Kind {
     ParseSegInfo,
     /// byte_pos, remaining_bytes and remaining_slice.
     Positions,
+    TileRectangles,
     /// Several readings by one reader.
     Rows,
-    TileRectangles,
+    /// The Rust's own callers of the reader, over both readers.
+    Callers,
 }
 
 impl Kind {
-    /// In the order of their numbers in the stored list, which has the first 15.
-    pub const ALL: [Self; 18] = [
+    /// In the order of their numbers in the stored list, which has the first 17.
+    pub const ALL: [Self; 19] = [
         Self::GetBit,
         Self::GetBits,
         Self::GetSbits,
@@ -44,12 +46,15 @@ impl Kind {
         Self::ParseTileInfoFrmhdr,
         Self::ParseSegInfo,
         Self::Positions,
-        Self::Rows,
         Self::TileRectangles,
+        Self::Rows,
+        Self::Callers,
     ];
 
     /// The readings that answer a number, and bytealign.
     pub const READINGS: usize = 11;
+    /// The kinds that the stored list has.
+    pub const STORED: usize = 17;
 
     pub fn number(self) -> u64 {
         self as u64
@@ -75,6 +80,7 @@ impl Kind {
             Self::Positions => "positions",
             Self::Rows => "rows",
             Self::TileRectangles => "tile_rectangles",
+            Self::Callers => "callers",
         }
     }
 
@@ -92,5 +98,16 @@ impl Kind {
                 | Self::ParseSegInfo
                 | Self::TileRectangles
         )
+    }
+
+    /// The full lengths of the buffers that are lent beside the data.
+    pub fn full_lengths(self) -> &'static [i64] {
+        match self {
+            Self::ParseTileInfo | Self::TileRectangles => &[9, 65, 65],
+            Self::ParseSeqHdr => &[146, 9, 65, 65],
+            Self::ParseTileInfoFrmhdr => &[9, 65, 65, 9, 65, 65],
+            Self::ParseSegInfo => &[16, 3],
+            _ => &[],
+        }
     }
 }

@@ -2,7 +2,7 @@
 
 use compare::options::{Options, USAGE};
 use compare::run::{Plan, differs, run};
-use compare::{rebuild, report, shrink, vectors};
+use compare::{choice, rebuild, report, shrink, stored};
 use std::process::ExitCode;
 
 fn main() -> ExitCode {
@@ -28,13 +28,13 @@ fn main() -> ExitCode {
 }
 
 fn write_vectors(file: &std::path::Path, seed: u64) -> ExitCode {
-    let cases = vectors::cases(seed);
-    let bytes = vectors::stored(&cases);
+    let list = choice::list(seed);
+    let bytes = stored::file(&list);
     if let Err(e) = std::fs::write(file, &bytes) {
         eprintln!("compare: {}: {e}", file.display());
         return ExitCode::from(2);
     }
-    println!("{} cases, {} bytes", cases.len(), bytes.len());
+    println!("{} answers, {} bytes", list.len(), bytes.len());
     ExitCode::SUCCESS
 }
 

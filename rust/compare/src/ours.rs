@@ -1,15 +1,17 @@
 //! A case run by our library.
 
-use crate::case::{Case, Outcome};
+use crate::callers;
+use crate::case::{Case, Outcome, Place};
 use crate::kind::Kind;
 use crate::records::{Numbers, SEG, TILE, from::ours as from};
-use crate::rules::sort_tiles;
-use mubanlig::{GetBits, Result};
+use crate::by_rule::sort_tiles;
+use mubanlig::{Error, GetBits};
 
 pub fn run(case: &Case, out: &mut Outcome) {
     out.clear();
     let a = &case.args;
-    let gb = &mut GetBits::at_place(&case.data, case.place);
+    let Place { byte, used, error } = case.place;
+    let gb = &mut GetBits::at_place(&case.data, mubanlig::Place { byte, used, error });
     match case.kind {
         Kind::ParseTileInfo => parse_tile_info(a, gb, out),
         Kind::ParseSeqHdr => match mubanlig::parse_seq_hdr(gb, a[0] != 0) {
@@ -42,10 +44,16 @@ pub fn run(case: &Case, out: &mut Outcome) {
                 ]);
             }
         }
+        Kind::Callers => {
+            let mut text = String::new();
+            callers::call(a[0] as usize, a[1] as usize, gb, &mut text);
+            text.numbers(&mut out.record);
+        }
         Kind::TileRectangles => return tile_rectangles(a, out),
         kind => out.answer = reading(kind, gb, a),
     }
-    out.place = gb.place();
+    let mubanlig::Place { byte, used, error } = gb.place();
+    out.place = Place { byte, used, error };
 }
 
 fn reading(kind: Kind, gb: &mut GetBits, a: &[i64]) -> i64 {
@@ -70,7 +78,7 @@ fn reading(kind: Kind, gb: &mut GetBits, a: &[i64]) -> i64 {
     }
 }
 
-fn number(answer: Result<()>) -> i64 {
+fn number(answer: Result<(), Error>) -> i64 {
     answer.map_or_else(|refusal| i64::from(refusal.number()), |()| 0)
 }
 

@@ -1,5 +1,6 @@
 //! Records as rows of numbers, by name and for both libraries: the order is that of the C interface.
 
+#[cfg(feature = "ours")]
 use mubanlig as ours;
 use oracle::headers as theirs;
 
@@ -27,6 +28,7 @@ macro_rules! plain_numbers {
 }
 
 plain_numbers!(bool, u8, i8, u16, i16, i32, u32);
+#[cfg(feature = "ours")]
 plain_numbers!(ours::AdaptiveBoolean, ours::PixelLayout);
 plain_numbers!(theirs::AdaptiveBoolean, theirs::PixelLayout);
 
@@ -46,9 +48,21 @@ impl<T: Numbers> Numbers for Box<T> {
     }
 }
 
+/// Eight bytes of a text are one number.
+impl Numbers for String {
+    fn numbers(&self, out: &mut Vec<i64>) {
+        out.extend(self.as_bytes().chunks(8).map(|part| {
+            let mut bytes = [0; 8];
+            bytes[..part.len()].copy_from_slice(part);
+            i64::from_le_bytes(bytes)
+        }));
+    }
+}
+
 /// Rows of numbers for a record of both libraries, from one list of its fields, and the fields' names.
 macro_rules! record_numbers {
     ($names:ident: $ours:ty, $theirs:ty { $($($field:ident).+),* $(,)? }) => {
+        #[cfg(feature = "ours")]
         impl Numbers for $ours {
             fn numbers(&self, out: &mut Vec<i64>) {
                 $(self.$($field).+.numbers(out);)*
@@ -63,7 +77,7 @@ macro_rules! record_numbers {
 
         /// The name of each number.
         pub fn $names() -> Vec<String> {
-            let record = <$ours>::default();
+            let record = <$theirs>::default();
             let mut names = Vec::new();
             $({
                 let name = concat!($(".", stringify!($field)),+);
@@ -197,6 +211,7 @@ macro_rules! from_numbers {
 }
 
 pub mod from {
+    #[cfg(feature = "ours")]
     from_numbers!(ours);
     from_numbers!(theirs);
 }

@@ -4,7 +4,7 @@ use crate::case::{Case, Outcome, Source};
 use crate::kind::Kind;
 use crate::ours;
 use crate::records::{header_names, seg_names, tile_names};
-use crate::rules::{self, Rule};
+use crate::rule::Rule;
 use crate::tally::Tally;
 use std::fmt::Write;
 use std::panic::{AssertUnwindSafe, catch_unwind};
@@ -105,7 +105,7 @@ pub fn difference(case: &Case) -> String {
     let mut got = Outcome::default();
     let mut text = describe(case);
     let run = |f: &mut dyn FnMut()| catch_unwind(AssertUnwindSafe(f)).is_ok();
-    if !run(&mut || rules::expected(case, &mut expected)) {
+    if !run(&mut || crate::rules::expected(case, &mut expected)) {
         text.push_str("  the Rust panics\n");
     } else if !run(&mut || ours::run(case, &mut got)) {
         text.push_str("  our library panics\n");

@@ -174,11 +174,11 @@ impl<'a> Worker<'a> {
 }
 
 /// Whether both give one outcome. A panic is a difference.
-fn compared(case: &Case, expected: &mut Outcome, got: &mut Outcome) -> bool {
+fn compared(case: &Case, wanted: &mut Outcome, got: &mut Outcome) -> bool {
     catch_unwind(AssertUnwindSafe(|| {
-        rules::expected(case, expected);
+        rules::expected(case, wanted);
         ours::run(case, got);
-        expected.agrees(got)
+        wanted.agrees(got)
     }))
     .unwrap_or(false)
 }

@@ -1,7 +1,7 @@
 //! Counts of outcomes.
 
 use crate::case::{Case, Outcome, Source};
-use crate::rules::Rule;
+use crate::rule::Rule;
 
 #[derive(Debug, Clone, Default)]
 pub struct Tally {

@@ -1,10 +1,9 @@
 //! A case run by the Rust, in document 01's terms: its places, its numbers, and the record that comes back.
 
-use crate::case::{Case, Outcome};
+use crate::case::{Case, Outcome, Place};
 use crate::kind::Kind;
-use crate::records::{HEADER, Numbers, SEG, TILE, from::theirs as from};
-use crate::rules::Rule;
-use mubanlig::Place;
+use crate::records::{Numbers, SEG, TILE, from::theirs as from};
+use crate::rule::Rule;
 use oracle::Reader;
 use oracle::error::TealdustError;
 
@@ -36,6 +35,11 @@ pub fn run(case: &Case, out: &mut Outcome) {
             out.record.extend(rest.iter().map(|&byte| i64::from(byte)));
             return;
         }
+        Kind::Callers => {
+            let mut text = String::new();
+            gb.call(a[0] as usize, a[1] as usize, &mut text);
+            text.numbers(&mut out.record);
+        }
         Kind::Rows => {
             for call in a.chunks_exact(4) {
                 let kind = Kind::ALL[call[0] as usize];
@@ -54,11 +58,6 @@ pub fn run(case: &Case, out: &mut Outcome) {
     }
     let (byte, used, error) = gb.place();
     out.place = Place { byte, used, error };
-}
-
-/// The record of a refused header in the stored list: all numbers are 0.
-pub fn zero_header() -> Vec<i64> {
-    vec![0; HEADER]
 }
 
 fn reading(kind: Kind, gb: &mut Reader, a: &[i64]) -> i64 {
@@ -89,6 +88,7 @@ fn number(answer: Result<(), TealdustError>) -> i64 {
         Err(TealdustError::InvalidSequenceHeader) => 1,
         Err(TealdustError::InvalidTileInfo) => 2,
         Err(TealdustError::InvalidTrailingBits) => 3,
+        Err(other) => unreachable!("{other:?} is no refusal of these functions"),
     }
 }
 

@@ -3,13 +3,15 @@
 //! Its text is read from a folder at build time (`build.rs`), and none of it is kept here. `Reader` makes
 //! its crate-private reader and functions public, and speaks of places as document 01 does.
 
-/// The Rust's answers. Its own error type is not at hand; these are the three that the items here give.
+/// The Rust's answers. Its own error type is not at hand; these are those that the items here give.
 pub mod error {
     #[derive(Debug, Clone, Copy, PartialEq, Eq)]
     pub enum TealdustError {
         InvalidSequenceHeader,
         InvalidTileInfo,
         InvalidTrailingBits,
+        InvalidFilmGrainData,
+        InvalidContentInterpretation,
     }
 }
 
@@ -35,6 +37,7 @@ mod obu {
 
 mod reader;
 
+pub use obu::callers::NAMES as CALLERS;
 pub use reader::Reader;
 
 /// The folder that the Rust's files were read from.

@@ -117,6 +117,11 @@ impl<'a> Reader<'a> {
     ) -> Result<(), TealdustError> {
         obu::parse_tile_info_frmhdr(hdr, seqhdr, &mut self.gb)
     }
+
+    /// One of the Rust's callers of the reader, with all that it answers as text.
+    pub fn call(&mut self, which: usize, n: usize, out: &mut String) {
+        obu::callers::call(which, n, &mut self.gb, out);
+    }
 }
 
 #[cfg(test)]

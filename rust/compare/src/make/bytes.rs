@@ -1,9 +1,8 @@
 //! Byte strings and places.
 
 use crate::bits::BitWriter;
-use crate::case::Case;
+use crate::case::{Case, Place};
 use crate::rng::Rng;
-use mubanlig::Place;
 
 /// Bytes of several kinds, at most `most`; mostly few.
 pub fn fill(rng: &mut Rng, data: &mut Vec<u8>, most: u64) {

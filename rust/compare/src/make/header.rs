@@ -30,6 +30,8 @@ pub fn case(rng: &mut Rng, case: &mut Case) -> Source {
 /// What later fields of a header depend on.
 struct Writer<'a> {
     rng: &'a mut Rng,
+    /// Fields that are to have a value, by name.
+    wishes: &'a [(&'a str, u64)],
     bits: BitWriter,
     reduced: bool,
     mono: bool,
@@ -41,8 +43,14 @@ struct Writer<'a> {
 
 /// A header; one of about thirty has a field that is refused.
 pub fn header(rng: &mut Rng) -> Vec<u8> {
+    wished(rng, &[])
+}
+
+/// A header in which some fields have a value.
+pub fn wished(rng: &mut Rng, wishes: &[(&str, u64)]) -> Vec<u8> {
     let mut w = Writer {
         rng,
+        wishes,
         bits: BitWriter::default(),
         reduced: false,
         mono: false,
@@ -73,8 +81,19 @@ pub fn header(rng: &mut Rng) -> Vec<u8> {
 }
 
 impl Writer<'_> {
+    /// The value wished for a field, else the other one.
+    fn wish(&self, name: &str, other: u64) -> u64 {
+        let wish = self.wishes.iter().find(|wish| wish.0 == name);
+        wish.map_or(other, |wish| wish.1)
+    }
+
     fn flag(&mut self) -> bool {
+        self.named_flag("")
+    }
+
+    fn named_flag(&mut self, name: &str) -> bool {
         let flag = self.rng.flag();
+        let flag = self.wish(name, flag.into()) != 0;
         self.bits.bit(flag);
         flag
     }
@@ -86,40 +105,50 @@ impl Writer<'_> {
     }
 
     fn number(&mut self, n: u32) -> u64 {
+        self.named("", n)
+    }
+
+    fn named(&mut self, name: &str, n: u32) -> u64 {
         let number = self.rng.below(1 << n);
+        let number = self.wish(name, number) & ((1 << n) - 1);
         self.bits.bits(number, n);
         number
     }
 
     /// A number of any length, mostly a small one.
     fn vlc(&mut self) {
+        self.named_vlc("");
+    }
+
+    fn named_vlc(&mut self, name: &str) {
         let number = if self.rng.percent(80) {
             self.rng.below(20)
         } else {
             self.rng.wide(32).min((1 << 32) - 2)
         };
-        self.bits.vlc(number);
+        self.bits.vlc(self.wish(name, number));
     }
 
     /// Id, profile, level, tier, layout, bit depth.
     fn start(&mut self) {
-        self.vlc();
+        self.named_vlc("id");
         let profile = match self.rng.below(100) {
             0 => self.rng.range(9, 30) as u64,
             1..=9 => 31,
             _ => self.rng.below(9),
         };
-        self.bits.bits(profile, 5);
-        self.reduced = self.flag();
-        self.level = self.number(5) as u8;
+        self.bits.bits(self.wish("profile", profile), 5);
+        self.reduced = self.named_flag("reduced");
+        self.level = self.named("level", 5) as u8;
         if self.level >= 4 && !self.reduced {
-            self.tier = self.flag().into();
+            self.tier = self.named_flag("tier").into();
         }
         let layout = if self.rng.percent(99) {
             self.rng.below(4)
         } else {
             self.rng.pick(&[4, 5, 255, 256, 259])
         };
+        let layout = self.wish("layout", layout);
         self.mono = layout == 1;
         self.bits.vlc(layout);
         let depth = match self.rng.below(100) {
@@ -127,7 +156,7 @@ impl Writer<'_> {
             1..=5 => 256 * self.rng.range(1, 300) as u64 + self.rng.below(3),
             _ => self.rng.below(3),
         };
-        self.bits.vlc(depth);
+        self.bits.vlc(self.wish("depth", depth));
     }
 
     /// The highest temporal and embedded layer.
@@ -137,17 +166,20 @@ impl Writer<'_> {
         }
         self.number(3);
         self.flag();
-        let layers = [self.number(2), self.number(3)];
+        let layers = [self.named("tlayers", 2), self.named("mlayers", 3)];
         self.flag();
         layers
     }
 
     fn size_and_crop(&mut self) {
-        let lengths = [self.number(4) as u32 + 1, self.number(4) as u32 + 1];
-        self.size = lengths.map(|n| self.number(n) as i32 + 1);
-        if self.flag() {
-            for _ in 0..4 {
-                self.vlc();
+        let lengths = ["width_bits", "height_bits"].map(|name| self.named(name, 4) as u32 + 1);
+        self.size = [
+            self.named("width", lengths[0]) as i32 + 1,
+            self.named("height", lengths[1]) as i32 + 1,
+        ];
+        if self.named_flag("crop") {
+            for name in ["left", "right", "top", "bottom"] {
+                self.named_vlc(name);
             }
         }
     }
@@ -167,7 +199,7 @@ impl Writer<'_> {
     }
 
     fn dependencies(&mut self, layer: u64) {
-        if layer > 0 && self.flag() {
+        if layer > 0 && self.named_flag("dependencies") {
             for n in 1..layer {
                 self.number(n as u32);
             }
@@ -195,7 +227,7 @@ impl Writer<'_> {
         self.flag();
         for _ in 0..if ext { 16 } else { 8 } {
             if self.flag() {
-                self.number(10);
+                self.named("delta", 10);
             }
             self.flags(2);
         }
@@ -204,7 +236,7 @@ impl Writer<'_> {
     fn intra(&mut self) {
         self.flags(4);
         if !self.mono {
-            self.number(2);
+            self.named("filter", 2);
         }
         self.flags(2);
     }
@@ -213,7 +245,7 @@ impl Writer<'_> {
         if self.reduced {
             return;
         }
-        let modes = self.number(4);
+        let modes = self.named("modes", 4);
         if modes != 0 {
             self.flag();
         }
@@ -225,7 +257,7 @@ impl Writer<'_> {
         if self.flag() {
             self.flag();
         }
-        self.number(4);
+        self.named("order", 4);
     }
 
     fn references(&mut self) {
@@ -235,24 +267,24 @@ impl Writer<'_> {
         }
         if !self.reduced {
             self.flag();
-            if self.flag() {
+            if self.named_flag("told") {
                 let frames = if self.rng.percent(99) {
                     self.rng.below(8)
                 } else {
                     self.rng.range(8, 15) as u64
                 };
-                self.bits.bits(frames, 4);
+                self.bits.bits(self.wish("frames", frames), 4);
             }
-            self.number(3);
+            self.named("long_term", 3);
             let drl = self.rng.below(5);
-            self.bits.uniform(drl, 5);
+            self.bits.uniform(self.wish("drl", drl), 5);
             self.flag();
         }
         let bvp = self.rng.below(3);
-        self.bits.uniform(bvp, 3);
+        self.bits.uniform(self.wish("bvp", bvp), 3);
         self.flag();
         if !self.reduced {
-            self.number(2);
+            self.named("same", 2);
         }
     }
 
@@ -261,7 +293,7 @@ impl Writer<'_> {
             self.flag();
             return;
         }
-        let tip = self.flag();
+        let tip = self.named_flag("tip");
         if tip {
             self.flags(2);
         }
@@ -269,7 +301,7 @@ impl Writer<'_> {
         if self.flag() && tip {
             self.flag();
         }
-        let refined = self.number(2) != 0;
+        let refined = self.named("refined", 2) != 0;
         if (self.flag() || refined) && tip {
             self.flag();
         }
@@ -308,16 +340,22 @@ impl Writer<'_> {
 
     fn quantizer(&mut self) {
         self.flags(usize::from(!self.mono));
-        let equal = self.flag();
+        let equal = self.named_flag("equal");
         if !equal {
-            self.number(6);
+            self.base("ydc");
         }
         if !self.mono {
             if !equal {
-                self.number(6);
+                self.base("uvdc");
             }
-            self.number(6);
+            self.base("uvac");
         }
+    }
+
+    /// Five bits and a flag.
+    fn base(&mut self, name: &str) {
+        self.named(name, 5);
+        self.flag();
     }
 
     fn filters(&mut self) {
@@ -337,12 +375,12 @@ impl Writer<'_> {
         if !self.reduced && !self.flag() {
             self.flag();
         }
-        self.number(2);
+        self.named("bits", 2);
     }
 
     /// Random bits, as many as the layout reads.
     fn tiling(&mut self) {
-        if !self.flag() {
+        if !self.named_flag("tiling") {
             return;
         }
         self.flag();
@@ -365,7 +403,7 @@ impl Writer<'_> {
     fn end(mut self) -> Vec<u8> {
         self.flags(2);
         let trailing = self.rng.percent(95);
-        self.bits.bit(trailing);
+        self.bits.bit(self.wish("trailing", trailing.into()) != 0);
         let mut data = self.bits.into_bytes();
         for _ in 0..self.rng.below(4) {
             data.push(if self.rng.flag() { 0 } else { self.rng.byte() });

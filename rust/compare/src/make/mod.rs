@@ -1,18 +1,18 @@
 //! Cases made at random, of each kind.
 
 mod bytes;
+mod callers;
 mod damage;
 mod frames;
 pub mod header;
 pub mod layouts;
 mod readings;
 
-use crate::case::{Case, Outcome, Source};
+use crate::case::{Case, Outcome, Place, Source};
+use crate::rules::expected;
 use crate::kind::Kind;
 use crate::records::SEG;
 use crate::rng::Rng;
-use crate::rules;
-use mubanlig::Place;
 
 /// Makes a case of the kind that `case` has, in place of what is in it.
 pub fn make(rng: &mut Rng, case: &mut Case, scratch: &mut Outcome) -> Source {
@@ -29,6 +29,7 @@ pub fn make(rng: &mut Rng, case: &mut Case, scratch: &mut Outcome) -> Source {
             bytes::fill(rng, &mut case.data, 40);
         }
         Kind::Rows => readings::row(rng, case),
+        Kind::Callers => callers::case(rng, case),
         kind => {
             readings::args(rng, kind, &mut case.args);
             readings::data(rng, case);
@@ -65,8 +66,8 @@ fn seg_args(rng: &mut Rng, case: &mut Case) {
 
 /// Makes the data end within three bits of the last bit that is read.
 fn cut_at_boundary(rng: &mut Rng, case: &mut Case, scratch: &mut Outcome) {
-    rules::expected(case, scratch);
-    let read = (8 * scratch.place.byte + scratch.place.used as usize) as i64;
+    expected(case, scratch);
+    let read = scratch.place.bits() as i64;
     let kept = (read + rng.range(-3, 3)).max(0) as usize;
     bytes::put_behind(rng, case, Some(kept));
 }

@@ -1,0 +1,21 @@
+//! The Rust's own callers of the reader, with their text unchanged but for the import of the reader: ours.
+
+include!("../oracle/items.rs");
+
+/// The functions behind the items that call each of them.
+const CALLERS: &str = "../oracle/src/glue/callers.rs";
+
+fn main() {
+    println!("cargo::rerun-if-changed=../oracle/items.rs");
+    println!("cargo::rerun-if-changed={CALLERS}");
+    if env::var_os("CARGO_FEATURE_OURS").is_none() {
+        return;
+    }
+    let src = source_folder();
+    let theirs = obu_items(&src);
+    let ours = theirs.replace("use crate::getbits::GetBits;", "use mubanlig::GetBits;");
+    assert_ne!(ours, theirs, "obu.rs doesn't import the reader");
+    let call = fs::read_to_string(CALLERS).unwrap_or_else(|e| panic!("{CALLERS}: {e}"));
+    write("obu.rs", &[ours, call].join("\n"));
+    write("intops.rs", &read(&src, "intops.rs"));
+}

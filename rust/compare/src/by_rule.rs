@@ -1,0 +1,156 @@
+//! Where document 01 decides and not the Rust: the limits and operations that it adds.
+
+use crate::case::{Case, Outcome, Place};
+use crate::kind::Kind;
+use crate::records::{HEADER, SEG, TILE};
+use crate::rule::Rule;
+
+/// What stands in each number that is lent for a header.
+const LENT: i64 = 7;
+
+/// The outcome, if document 01 alone decides it.
+pub fn decided(case: &Case, out: &mut Outcome) -> bool {
+    let a = &case.args;
+    match case.kind {
+        kind if is_short(kind, &case.lent) => short(case, out),
+        Kind::TileRectangles => rectangles(a, out),
+        Kind::ParseTileInfo if !in_domain(&a[TILE..]) => {
+            outside_domain(case, &a[..TILE], out);
+        }
+        Kind::ParseTileInfoFrmhdr if !in_frame_domain(a) => {
+            outside_domain(case, &a[3..4 + TILE], out);
+        }
+        kind if beyond_limit(kind, a) => {
+            out.rule = Some(Rule::Limit);
+            out.place = Place {
+                error: true,
+                ..case.settled()
+            };
+        }
+        _ => return false,
+    }
+    true
+}
+
+fn is_short(kind: Kind, lent: &[i64]) -> bool {
+    lent.iter().zip(kind.full_lengths()).any(|(len, full)| len < full)
+}
+
+/// Nothing that was lent changes, the place included.
+fn short(case: &Case, out: &mut Outcome) {
+    let a = &case.args;
+    out.rule = Some(Rule::Short);
+    out.answer = 5;
+    out.place = case.place;
+    match case.kind {
+        Kind::ParseTileInfo => out.record.extend(&a[..TILE]),
+        Kind::ParseSeqHdr => out.record.resize(HEADER, LENT),
+        Kind::ParseTileInfoFrmhdr => out.record.extend(&a[3..4 + TILE]),
+        Kind::ParseSegInfo => out.record.extend(&a[..SEG]),
+        _ => lent_numbers(a, out),
+    }
+}
+
+/// The limits that document 01 adds; the Rust answers there.
+fn beyond_limit(kind: Kind, a: &[i64]) -> bool {
+    const TOP: i64 = 1 << 31;
+    match kind {
+        Kind::GetUniform | Kind::GetRefUniform => a[0] >= TOP,
+        Kind::GetBitsSubexp => a[1] > 1 << 30 && a[1] < TOP,
+        Kind::GetBitsSubexpU => a[1] >= TOP && a[0] < a[1] && (0..32).contains(&a[2]),
+        _ => false,
+    }
+}
+
+fn outside_domain(case: &Case, given: &[i64], out: &mut Outcome) {
+    out.rule = Some(Rule::Domain);
+    out.answer = 4;
+    out.place = case.settled();
+    out.record.extend(given);
+}
+
+fn is_size(n: i64) -> bool {
+    (1..=65_536).contains(&n)
+}
+
+/// Multiplier, frame code, sequence code, width, height, level, tier.
+fn in_domain(b: &[i64]) -> bool {
+    matches!(
+        (b[0], b[1], b[2]),
+        (1, 0, 0) | (1, 1, 1) | (1, 2, 2) | (2, 1, 2)
+    ) && is_size(b[3])
+        && is_size(b[4])
+        && (0..=31).contains(&b[5])
+        && (0..=1).contains(&b[6])
+}
+
+fn in_frame_domain(a: &[i64]) -> bool {
+    (0..=3).contains(&a[0])
+        && is_size(a[1])
+        && is_size(a[2])
+        && (0..=2).contains(&a[4 + TILE + 5])
+        && is_usable(&a[4 + TILE..])
+}
+
+/// A sequence record that can be used for a frame: code, sizes, level, tier, tiling, layout.
+fn is_usable(seq: &[i64]) -> bool {
+    let t = &seq[6..];
+    (0..=2).contains(&seq[0])
+        && is_size(seq[1])
+        && is_size(seq[2])
+        && (0..=31).contains(&seq[3])
+        && (0..=1).contains(&seq[4])
+        && (seq[5] == 0 || (are_usable(t[4], t[3], &t[9..74]) && are_usable(t[8], t[7], &t[74..])))
+}
+
+fn are_usable(tiles: i64, log2: i64, starts: &[i64]) -> bool {
+    (1..=64).contains(&tiles)
+        && log2 <= 6
+        && starts[..=tiles as usize].iter().all(|&start| start <= 1024)
+}
+
+/// The layout's 139 numbers, the superblock code, the buffer's length and its first number.
+fn rectangles(a: &[i64], out: &mut Outcome) {
+    let (t, code, len) = (&a[..TILE], a[TILE], a[TILE + 1]);
+    out.rule = Some(Rule::Rectangles);
+    lent_numbers(a, out);
+    let (cols, rows) = (t[4], t[8]);
+    if code > 2 || !never_fall(cols, &t[9..74]) || !never_fall(rows, &t[74..]) {
+        out.answer = 4;
+        return;
+    }
+    if len < 4 * cols * rows {
+        out.answer = 5;
+        return;
+    }
+    let size = 64 << code;
+    for col in 0..cols as usize {
+        for row in 0..rows as usize {
+            let (left, right) = (t[9 + col] * size, t[10 + col] * size);
+            let (top, bottom) = (t[74 + row] * size, t[75 + row] * size);
+            let tile = 4 * (col * rows as usize + row);
+            out.record[tile..tile + 4].copy_from_slice(&[left, top, right - left, bottom - top]);
+        }
+    }
+    sort_tiles(&mut out.record, cols as u8, rows as u8);
+}
+
+/// The numbers that are lent for rectangles: so many, from the first one on.
+fn lent_numbers(a: &[i64], out: &mut Outcome) {
+    let (len, first) = (a[TILE + 1], a[TILE + 2]);
+    out.record
+        .extend((0..len).map(|i| i64::from((first + i) as u32)));
+}
+
+fn never_fall(tiles: i64, starts: &[i64]) -> bool {
+    (1..=64).contains(&tiles)
+        && starts[..=tiles as usize].is_sorted()
+        && starts[tiles as usize] <= 1024
+}
+
+/// The tiles' order is left open, so they are compared in a fixed one.
+pub fn sort_tiles(record: &mut [i64], cols: u8, rows: u8) {
+    let tiles = usize::from(cols) * usize::from(rows);
+    let (tiles, _) = record[..4 * tiles].as_chunks_mut::<4>();
+    tiles.sort_unstable();
+}

@@ -1,0 +1,1 @@
+//! Wrong versions of the Rust: how many stored answers notice each.
