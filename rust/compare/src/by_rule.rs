@@ -123,16 +123,14 @@ fn rectangles(a: &[i64], out: &mut Outcome) {
         out.answer = 5;
         return;
     }
+    // Row by row, as the library's contract says; document 01 leaves the order open.
     let size = 64 << code;
-    for col in 0..cols as usize {
-        for row in 0..rows as usize {
-            let (left, right) = (t[9 + col] * size, t[10 + col] * size);
-            let (top, bottom) = (t[74 + row] * size, t[75 + row] * size);
-            let tile = 4 * (col * rows as usize + row);
-            out.record[tile..tile + 4].copy_from_slice(&[left, top, right - left, bottom - top]);
-        }
+    let tiles = (0..rows as usize).flat_map(|row| (0..cols as usize).map(move |col| (col, row)));
+    for (tile, (col, row)) in tiles.enumerate() {
+        let (left, right) = (t[9 + col] * size, t[10 + col] * size);
+        let (top, bottom) = (t[74 + row] * size, t[75 + row] * size);
+        out.record[4 * tile..4 * tile + 4].copy_from_slice(&[left, top, right - left, bottom - top]);
     }
-    sort_tiles(&mut out.record, cols as u8, rows as u8);
 }
 
 /// The numbers that are lent for rectangles: so many, from the first one on.
@@ -146,11 +144,4 @@ fn never_fall(tiles: i64, starts: &[i64]) -> bool {
     (1..=64).contains(&tiles)
         && starts[..=tiles as usize].is_sorted()
         && starts[tiles as usize] <= 1024
-}
-
-/// The tiles' order is left open, so they are compared in a fixed one.
-pub fn sort_tiles(record: &mut [i64], cols: u8, rows: u8) {
-    let tiles = usize::from(cols) * usize::from(rows);
-    let (tiles, _) = record[..4 * tiles].as_chunks_mut::<4>();
-    tiles.sort_unstable();
 }

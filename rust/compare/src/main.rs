@@ -2,7 +2,8 @@
 
 use compare::options::{Options, USAGE};
 use compare::run::{Plan, differs, run};
-use compare::{choice, rebuild, report, shrink, stored};
+use compare::{choice, rebuild, replay, report, shrink, stored, wrong};
+use std::path::Path;
 use std::process::ExitCode;
 
 fn main() -> ExitCode {
@@ -18,16 +19,35 @@ fn main() -> ExitCode {
             return ExitCode::from(2);
         }
     };
-    if let Some(folder) = options.folder.as_ref().filter(|dir| rebuild::is_other(dir)) {
-        return rebuild::run_over(folder, &options.rest);
-    }
-    match &options.vectors {
-        Some(file) => write_vectors(file, options.seed),
-        None => compare(&options),
+    let other = options.folder.as_ref().filter(|dir| rebuild::is_other(dir));
+    match (other, &options.replay) {
+        (Some(folder), Some(file)) => rebuild::replay(folder, file),
+        (None, Some(file)) => replay::print(file),
+        (Some(folder), None) => rebuild::run_over(folder, &options.rest),
+        (None, None) => run_here(&options),
     }
 }
 
-fn write_vectors(file: &std::path::Path, seed: u64) -> ExitCode {
+fn run_here(options: &Options) -> ExitCode {
+    if let Some(file) = &options.vectors {
+        return write_vectors(file, options.seed);
+    }
+    let Some(file) = &options.wrong_versions else {
+        return compare(options);
+    };
+    match wrong::table(file, options.threads) {
+        Ok(table) => {
+            print!("{table}");
+            ExitCode::SUCCESS
+        }
+        Err(why) => {
+            eprintln!("compare: {why}");
+            ExitCode::FAILURE
+        }
+    }
+}
+
+fn write_vectors(file: &Path, seed: u64) -> ExitCode {
     let list = choice::list(seed);
     let bytes = stored::file(&list);
     if let Err(e) = std::fs::write(file, &bytes) {

@@ -4,7 +4,10 @@ use crate::kind::Kind;
 use std::path::PathBuf;
 
 pub const USAGE: &str = "\
-usage: compare [FOLDER] [--cases N] [--seed N] [--kinds A,B] [--exhaustive BYTES] [--threads N] [--vectors FILE]
+usage: compare [FOLDER] [--short] [--cases N] [--seed N] [--kinds A,B] [--exhaustive BYTES] [--threads N]
+       compare --vectors FILE
+       compare [FOLDER] --replay FILE
+       compare --wrong-versions FILE
 
 Compares the proved library with the Rust.
   FOLDER            the folder with the Rust's files; compare is built again with these
@@ -13,7 +16,10 @@ Compares the proved library with the Rust.
   --kinds A,B       only these kinds
   --exhaustive N    all inputs of up to N bytes, 0 to 2 (2)
   --threads N       threads (the machine's cores)
-  --vectors FILE    write the stored list of the Rust's answers, and compare nothing";
+  --short           20000 random cases of each kind and all inputs of up to one byte: seconds
+  --vectors FILE    write the stored list of the Rust's answers
+  --replay FILE     replay a stored list on the Rust; the last line is 'N of M stored answers differ'
+  --wrong-versions FILE   replay a stored list on each wrong version of the Rust (wrong.tsv), and print a table";
 
 #[derive(Debug)]
 pub struct Options {
@@ -26,6 +32,8 @@ pub struct Options {
     pub exhaustive_bytes: u32,
     pub threads: usize,
     pub vectors: Option<PathBuf>,
+    pub replay: Option<PathBuf>,
+    pub wrong_versions: Option<PathBuf>,
 }
 
 impl Options {
@@ -39,6 +47,8 @@ impl Options {
             exhaustive_bytes: 2,
             threads: std::thread::available_parallelism().map_or(1, usize::from),
             vectors: None,
+            replay: None,
+            wrong_versions: None,
         };
         let mut words = words.iter();
         while let Some(word) = words.next() {
@@ -46,6 +56,12 @@ impl Options {
                 if options.folder.replace(PathBuf::from(word)).is_some() {
                     return Err(format!("a second folder: {word}"));
                 }
+                continue;
+            }
+            if word == "--short" {
+                options.rest.push(word.clone());
+                options.cases = 20_000;
+                options.exhaustive_bytes = 1;
                 continue;
             }
             let value = words.next().ok_or(format!("{word} needs a value"))?;
@@ -57,6 +73,8 @@ impl Options {
                 "--exhaustive" => options.exhaustive_bytes = number(word, value)?.min(2) as u32,
                 "--threads" => options.threads = number(word, value)?.max(1) as usize,
                 "--vectors" => options.vectors = Some(PathBuf::from(value)),
+                "--replay" => options.replay = Some(PathBuf::from(value)),
+                "--wrong-versions" => options.wrong_versions = Some(PathBuf::from(value)),
                 _ => return Err(format!("there is no option {word}")),
             }
         }

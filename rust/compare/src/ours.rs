@@ -4,7 +4,6 @@ use crate::callers;
 use crate::case::{Case, Outcome, Place};
 use crate::kind::Kind;
 use crate::records::{Numbers, SEG, TILE, from::ours as from};
-use crate::by_rule::sort_tiles;
 use mubanlig::{Error, GetBits};
 
 pub fn run(case: &Case, out: &mut Outcome) {
@@ -112,7 +111,4 @@ fn tile_rectangles(a: &[i64], out: &mut Outcome) {
     let mut buffer: Vec<u32> = (0..a[TILE + 1]).map(|i| (a[TILE + 2] + i) as u32).collect();
     out.answer = number(mubanlig::tile_rectangles(&t, a[TILE] as u8, &mut buffer));
     out.record.extend(buffer.iter().map(|&n| i64::from(n)));
-    if out.answer == 0 {
-        sort_tiles(&mut out.record, t.cols, t.rows);
-    }
 }

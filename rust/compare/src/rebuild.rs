@@ -1,6 +1,6 @@
-//! Another folder with the Rust's files: the oracle is compiled in, so compare is built again with these.
+//! Another folder with the Rust's files: the oracle is compiled in, so the program is built again with these.
 
-use std::path::Path;
+use std::path::{Path, PathBuf};
 use std::process::{Command, ExitCode};
 use std::{env, fs};
 
@@ -12,23 +12,57 @@ pub fn is_other(folder: &Path) -> bool {
         .all(|dir| fs::canonicalize(dir).map_or(true, |dir| dir != compiled_in))
 }
 
-/// Builds compare over the folder, in a target folder of its own, and runs it on the other words.
+fn workspace() -> PathBuf {
+    Path::new(env!("CARGO_MANIFEST_DIR")).join("..")
+}
+
+pub fn target_folder() -> PathBuf {
+    workspace().join("target")
+}
+
+/// `cargo run` over a folder with the Rust's files, in a target folder of its own.
+fn cargo_run(folder: &Path, target: &Path) -> Command {
+    let mut command = Command::new(env::var_os("CARGO").unwrap_or_else(|| "cargo".into()));
+    command
+        .args(["run", "--quiet", "--manifest-path"])
+        .arg(workspace().join("Cargo.toml"))
+        .arg("--target-dir")
+        .arg(target)
+        .env("ORACLE_SRC", folder);
+    command
+}
+
+/// Builds compare over the folder and runs it on the other words.
 pub fn run_over(folder: &Path, words: &[String]) -> ExitCode {
-    let workspace = Path::new(env!("CARGO_MANIFEST_DIR")).join("..");
-    let cargo = env::var_os("CARGO").unwrap_or_else(|| "cargo".into());
-    let run = fs::canonicalize(folder).and_then(|folder| {
-        Command::new(cargo)
-            .args(["run", "--quiet", "--release", "--bin", "compare"])
-            .arg("--manifest-path")
-            .arg(workspace.join("Cargo.toml"))
-            .arg("--target-dir")
-            .arg(workspace.join("target/other-oracle"))
-            .arg("--")
-            .args(words)
-            .env("ORACLE_SRC", folder)
-            .status()
-    });
-    match run {
+    let target = target_folder().join("other-oracle");
+    finish(folder, |folder| {
+        let mut command = cargo_run(folder, &target);
+        command.args(["--release", "--bin", "compare", "--"]).args(words);
+        command
+    })
+}
+
+/// Builds the replaying program alone, which needs no library of ours, and runs it on a stored list.
+pub fn replay_over(folder: &Path, target: &Path, answers: &Path) -> Command {
+    let mut command = cargo_run(folder, target);
+    command.args(["--package", "compare", "--no-default-features", "--bin", "replay"]);
+    for quick in ["opt-level=0", "debug=0"] {
+        command.args(["--config", &format!("profile.dev.{quick}")]);
+        for package in ["oracle", "compare"] {
+            command.args(["--config", &format!("profile.dev.package.{package}.{quick}")]);
+        }
+    }
+    command.arg("--").arg(answers);
+    command
+}
+
+pub fn replay(folder: &Path, answers: &Path) -> ExitCode {
+    let target = target_folder().join("other-replay");
+    finish(folder, |folder| replay_over(folder, &target, answers))
+}
+
+fn finish(folder: &Path, command: impl FnOnce(&Path) -> Command) -> ExitCode {
+    match fs::canonicalize(folder).and_then(|folder| command(&folder).status()) {
         Ok(status) => ExitCode::from(status.code().map_or(2, |code| code as u8)),
         Err(e) => {
             eprintln!("compare: {}: {e}", folder.display());

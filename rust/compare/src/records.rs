@@ -130,11 +130,10 @@ record_numbers! { header_names: ours::SequenceHeader, theirs::SequenceHeader {
     base_uvac_dq, uvac_dq_enabled,
     disable_loopfilters_across_tiles, cdef, gdf, gdf_unit_matches_sbsz, restoration, rst_disable_mask,
     ccso, ccso_unit_matches_sbsz, cdef_on_skiptx, df_par_bits,
-    tiling.present,
+    tiling.present, film_grain_present,
     tiling.t.uniform, tiling.t.min_log2_cols, tiling.t.max_log2_cols, tiling.t.log2_cols, tiling.t.cols,
     tiling.t.min_log2_rows, tiling.t.max_log2_rows, tiling.t.log2_rows, tiling.t.rows,
     tiling.t.col_start_sb, tiling.t.row_start_sb,
-    film_grain_present,
 } }
 
 /// Records of both libraries from a row of numbers.

@@ -1,8 +1,8 @@
 //! The file of stored answers: a row of cases, each with its outcome.
 //!
 //! A case is its length in bytes (two bytes, the low one first), then numbers in uleb128: the kind; how many data
-//! bytes, and these bytes as they are; the place's position in bits and its error; a row of arguments; a row of the
-//! outcome. A row is how many numbers it has, and these; a 0 in it is followed by how many further zeros follow. A
+//! bytes, and these bytes as they are; three rows of numbers: the place's position in bits and its error, the arguments,
+//! and the outcome. A row is how many numbers it has, and these; a 0 in it is followed by how many further zeros follow. A
 //! number below 0 is stored with 2^32 added. Arguments are those of the kind, then the lengths of the lent buffers. An
 //! outcome is the value or the answer's number, the position and the error after it, and the record that comes back.
 
@@ -59,8 +59,7 @@ fn case_bytes(stored: &Stored) -> Vec<u8> {
     uleb128(&mut out, case.kind.number());
     uleb128(&mut out, case.data.len() as u64);
     out.extend(&case.data);
-    uleb128(&mut out, case.place.bits() as u64);
-    uleb128(&mut out, case.place.error.into());
+    row(&mut out, &[case.place.bits() as u32, case.place.error.into()]);
     let args: Vec<u32> = case
         .args
         .iter()
@@ -152,11 +151,7 @@ impl Numbers<'_> {
         let len = self.uleb128() as usize;
         let (data, rest) = self.0.split_at(len);
         self.0 = rest;
-        let place = Place {
-            error: false,
-            ..Place::behind(self.uleb128() as usize)
-        };
-        let error = self.uleb128() != 0;
+        let place = self.row();
         let row = self.row();
         let full = kind.full_lengths();
         let (args, lent) = row.split_at(row.len() - full.len());
@@ -165,7 +160,10 @@ impl Numbers<'_> {
             case: Case {
                 kind,
                 data: data.to_vec(),
-                place: Place { error, ..place },
+                place: Place {
+                    error: place[1] != 0,
+                    ..Place::behind(place[0] as usize)
+                },
                 args: signed_args(kind, args),
                 lent: if lent == full { vec![] } else { lent },
             },
