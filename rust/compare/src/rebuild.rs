@@ -24,7 +24,7 @@ pub fn target_folder() -> PathBuf {
 fn cargo_run(folder: &Path, target: &Path) -> Command {
     let mut command = Command::new(env::var_os("CARGO").unwrap_or_else(|| "cargo".into()));
     command
-        .args(["run", "--quiet", "--manifest-path"])
+        .args(["run", "--quiet", "--package", "compare", "--manifest-path"])
         .arg(workspace().join("Cargo.toml"))
         .arg("--target-dir")
         .arg(target)
@@ -45,7 +45,7 @@ pub fn run_over(folder: &Path, words: &[String]) -> ExitCode {
 /// Builds the replaying program alone, which needs no library of ours, and runs it on a stored list.
 pub fn replay_over(folder: &Path, target: &Path, answers: &Path) -> Command {
     let mut command = cargo_run(folder, target);
-    command.args(["--package", "compare", "--no-default-features", "--bin", "replay"]);
+    command.args(["--no-default-features", "--bin", "replay"]);
     for quick in ["opt-level=0", "debug=0"] {
         command.args(["--config", &format!("profile.dev.{quick}")]);
         for package in ["oracle", "compare"] {

@@ -130,6 +130,10 @@ fn both(text: &mut String, case: &Case, expected: &Outcome, got: &Outcome) -> st
             u32::from(place.error)
         )?;
     }
+    if case.kind == Kind::Callers {
+        writeln!(text, "  expected: {}", text_of(&expected.record))?;
+        return writeln!(text, "  ours    : {}", text_of(&got.record));
+    }
     let names = record_names(case.kind);
     let numbers = expected.record.len().max(got.record.len());
     for i in 0..numbers {
@@ -146,6 +150,12 @@ fn both(text: &mut String, case: &Case, expected: &Outcome, got: &Outcome) -> st
         }
     }
     Ok(())
+}
+
+/// A text that was made numbers.
+fn text_of(numbers: &[i64]) -> String {
+    let bytes: Vec<u8> = numbers.iter().flat_map(|n| n.to_le_bytes()).collect();
+    String::from_utf8_lossy(&bytes).trim_end_matches('\0').to_string()
 }
 
 fn record_names(kind: Kind) -> Vec<String> {
@@ -200,6 +210,7 @@ fn arg_names(kind: Kind) -> Vec<String> {
             plain(&["code", "buffer's length", "buffer's first number"]),
         ]
         .concat(),
+        Kind::Callers => plain(&["caller", "argument"]),
         _ => vec![],
     }
 }
@@ -224,6 +235,9 @@ fn describe(case: &Case) -> String {
             text += &format!("  call: {name} {:?}\n", &call[1..]);
         }
         return text;
+    }
+    if case.kind == Kind::Callers {
+        text += &format!("  {}\n", oracle::CALLERS[case.args[0] as usize]);
     }
     let all = case.args.len() <= FEW;
     for (name, &number) in arg_names(case.kind).iter().zip(&case.args) {

@@ -1,16 +1,16 @@
 //! A short comparison of each kind; the program `compare` does the long one.
 
 use compare::bits::BitWriter;
-use compare::case::{Case, Outcome};
+use compare::case::{Case, Outcome, Place};
 use compare::kind::Kind;
 use compare::make::header::header;
 use compare::options::Options;
 use compare::report;
 use compare::rng::Rng;
-use compare::rules::{self, Rule};
+use compare::rule::Rule;
+use compare::rules;
 use compare::run::{Plan, differs, run};
 use compare::shrink::shrink;
-use mubanlig::Place;
 use oracle::Reader;
 
 fn plan(kind: Kind, seed: u64) -> Plan {
@@ -57,7 +57,6 @@ fn most_made_headers_are_accepted() {
 #[test]
 fn a_failing_case_is_made_small() {
     let case = Case {
-        kind: Kind::GetBits,
         data: (0..40).collect(),
         place: Place {
             byte: 3,
@@ -65,6 +64,7 @@ fn a_failing_case_is_made_small() {
             error: true,
         },
         args: vec![31],
+        ..Case::of(Kind::GetBits)
     };
     // Stands for a difference: a byte of 16 or more, and a width above 6.
     let fails = |case: &Case| case.data.iter().any(|&byte| byte >= 16) && case.args[0] > 6;
@@ -77,10 +77,9 @@ fn a_failing_case_is_made_small() {
 #[test]
 fn an_added_limit_is_a_known_difference() {
     let case = Case {
-        kind: Kind::GetUniform,
         data: vec![0; 4],
-        place: Place::default(),
         args: vec![1 << 31],
+        ..Case::of(Kind::GetUniform)
     };
     let mut expected = Outcome::default();
     rules::expected(&case, &mut expected);

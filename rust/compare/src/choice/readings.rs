@@ -195,7 +195,7 @@ impl Adder<'_> {
     /// The values of get_uniform around the one where its length changes.
     fn uniform_values(max: i64) -> Vec<i64> {
         if max <= 1 {
-            return vec![0];
+            return vec![0; 4];
         }
         let short = (2 << max.ilog2()) - max;
         let mut values = vec![0, 1, short - 1, short, short + 1, short + 2, max - 2, max - 1];
