@@ -33,7 +33,9 @@ pub fn decided(case: &Case, out: &mut Outcome) -> bool {
 }
 
 fn is_short(kind: Kind, lent: &[i64]) -> bool {
-    lent.iter().zip(kind.full_lengths()).any(|(len, full)| len < full)
+    lent.iter()
+        .zip(kind.full_lengths())
+        .any(|(len, full)| len < full)
 }
 
 /// Nothing that was lent changes, the place included.
@@ -129,7 +131,12 @@ fn rectangles(a: &[i64], out: &mut Outcome) {
     for (tile, (col, row)) in tiles.enumerate() {
         let (left, right) = (t[9 + col] * size, t[10 + col] * size);
         let (top, bottom) = (t[74 + row] * size, t[75 + row] * size);
-        out.record[4 * tile..4 * tile + 4].copy_from_slice(&[left, top, right - left, bottom - top]);
+        out.record[4 * tile..4 * tile + 4].copy_from_slice(&[
+            left,
+            top,
+            right - left,
+            bottom - top,
+        ]);
     }
 }
 

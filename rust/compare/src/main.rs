@@ -1,8 +1,11 @@
 //! The comparison, and the stored list of the Rust's answers.
 
+use compare::case::Outcome;
 use compare::options::{Options, USAGE};
+use compare::rule::Rule;
 use compare::run::{Plan, differs, run};
-use compare::{choice, rebuild, replay, report, shrink, stored, wrong};
+use compare::stored::{self, Stored};
+use compare::{choice, rebuild, replay, report, rules, shrink, wrong};
 use std::path::Path;
 use std::process::ExitCode;
 
@@ -54,8 +57,20 @@ fn write_vectors(file: &Path, seed: u64) -> ExitCode {
         eprintln!("compare: {}: {e}", file.display());
         return ExitCode::from(2);
     }
-    println!("{} answers, {} bytes", list.len(), bytes.len());
+    println!(
+        "{} answers, {} of them by document 01 alone, {} bytes",
+        list.len(),
+        list.iter().filter(|stored| by_document(stored)).count(),
+        bytes.len()
+    );
     ExitCode::SUCCESS
+}
+
+/// Whether document 01 alone decides a case.
+fn by_document(stored: &Stored) -> bool {
+    let mut outcome = Outcome::default();
+    rules::expected(&stored.case, &mut outcome);
+    outcome.rule.is_some_and(Rule::decides)
 }
 
 fn compare(options: &Options) -> ExitCode {

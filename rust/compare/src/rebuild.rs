@@ -37,7 +37,9 @@ pub fn run_over(folder: &Path, words: &[String]) -> ExitCode {
     let target = target_folder().join("other-oracle");
     finish(folder, |folder| {
         let mut command = cargo_run(folder, &target);
-        command.args(["--release", "--bin", "compare", "--"]).args(words);
+        command
+            .args(["--release", "--bin", "compare", "--"])
+            .args(words);
         command
     })
 }
@@ -49,7 +51,10 @@ pub fn replay_over(folder: &Path, target: &Path, answers: &Path) -> Command {
     for quick in ["opt-level=0", "debug=0"] {
         command.args(["--config", &format!("profile.dev.{quick}")]);
         for package in ["oracle", "compare"] {
-            command.args(["--config", &format!("profile.dev.package.{package}.{quick}")]);
+            command.args([
+                "--config",
+                &format!("profile.dev.package.{package}.{quick}"),
+            ]);
         }
     }
     command.arg("--").arg(answers);

@@ -1,8 +1,8 @@
 //! Replays a stored list on the Rust.
 
 use crate::case::Outcome;
-use crate::rules::expected;
 use crate::kind::Kind;
+use crate::rules::expected;
 use crate::stored::{self, Stored};
 use std::panic::{AssertUnwindSafe, catch_unwind};
 use std::path::Path;

@@ -155,7 +155,9 @@ fn both(text: &mut String, case: &Case, expected: &Outcome, got: &Outcome) -> st
 /// A text that was made numbers.
 fn text_of(numbers: &[i64]) -> String {
     let bytes: Vec<u8> = numbers.iter().flat_map(|n| n.to_le_bytes()).collect();
-    String::from_utf8_lossy(&bytes).trim_end_matches('\0').to_string()
+    String::from_utf8_lossy(&bytes)
+        .trim_end_matches('\0')
+        .to_string()
 }
 
 fn record_names(kind: Kind) -> Vec<String> {

@@ -59,7 +59,10 @@ fn case_bytes(stored: &Stored) -> Vec<u8> {
     uleb128(&mut out, case.kind.number());
     uleb128(&mut out, case.data.len() as u64);
     out.extend(&case.data);
-    row(&mut out, &[case.place.bits() as u32, case.place.error.into()]);
+    row(
+        &mut out,
+        &[case.place.bits() as u32, case.place.error.into()],
+    );
     let args: Vec<u32> = case
         .args
         .iter()

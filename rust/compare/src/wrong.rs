@@ -28,7 +28,10 @@ pub fn versions() -> Vec<Version> {
 
 impl Version {
     fn parse(line: &str) -> Self {
-        let columns: Vec<String> = line.split('\t').map(|text| text.replace("\\n", "\n")).collect();
+        let columns: Vec<String> = line
+            .split('\t')
+            .map(|text| text.replace("\\n", "\n"))
+            .collect();
         let Ok([file, function, old, new]) = <[String; 4]>::try_from(columns) else {
             panic!("wrong.tsv: not four columns: {line}");
         };
@@ -43,9 +46,14 @@ impl Version {
     /// The text of its file with the wrong text in the place of the first such text in the function.
     pub fn applied(&self, text: &str) -> String {
         let head = format!("fn {}(", self.function);
-        let start = if self.function == "-" { Some(0) } else { text.find(&head) };
+        let start = if self.function == "-" {
+            Some(0)
+        } else {
+            text.find(&head)
+        };
         let at = start.and_then(|start| Some(start + text[start..].find(&self.old)?));
-        let at = at.unwrap_or_else(|| panic!("{}: {}: no '{}'", self.file, self.function, self.old));
+        let at =
+            at.unwrap_or_else(|| panic!("{}: {}: no '{}'", self.file, self.function, self.old));
         [&text[..at], &self.new, &text[at + self.old.len()..]].concat()
     }
 
@@ -55,7 +63,12 @@ impl Version {
             let words: Vec<&str> = text.split_whitespace().collect();
             words.join(" ").replace('|', "\\|")
         };
-        format!("| {} | `{}` | `{}` | {noticed} |\n", self.function, line(&self.old), line(&self.new))
+        format!(
+            "| {} | `{}` | `{}` | {noticed} |\n",
+            self.function,
+            line(&self.old),
+            line(&self.new)
+        )
     }
 }
 
@@ -77,14 +90,20 @@ pub fn table(answers: &Path, threads: usize) -> Result<String, String> {
             });
         }
     });
-    let mut text = String::from("| function | the Rust | wrong | answers that differ |\n|---|---|---|---:|\n");
+    let mut text =
+        String::from("| function | the Rust | wrong | answers that differ |\n|---|---|---|---:|\n");
     let mut fewest = u64::MAX;
     for (version, noticed) in versions.iter().zip(rows.into_inner().unwrap()) {
         let noticed = noticed?;
         fewest = fewest.min(noticed);
         text += &version.row(&crate::report::grouped(noticed));
     }
-    writeln!(text, "\n{} wrong versions; the least number is {fewest}.", versions.len()).unwrap();
+    writeln!(
+        text,
+        "\n{} wrong versions; the least number is {fewest}.",
+        versions.len()
+    )
+    .unwrap();
     Ok(text)
 }
 
@@ -101,7 +120,11 @@ fn noticed(version: &Version, worker: usize, answers: &Path) -> Result<u64, Stri
     for file in FILES {
         let from = Path::new(oracle::FOLDER).join(file);
         let text = fs::read_to_string(&from).map_err(|e| format!("{}: {e}", from.display()))?;
-        let text = if file == version.file { version.applied(&text) } else { text };
+        let text = if file == version.file {
+            version.applied(&text)
+        } else {
+            text
+        };
         fs::write(src.join(file), text).map_err(|e| format!("{}: {e}", src.display()))?;
     }
     let output = rebuild::replay_over(&src, &scratch, answers)
@@ -109,10 +132,19 @@ fn noticed(version: &Version, worker: usize, answers: &Path) -> Result<u64, Stri
         .map_err(|e| format!("cargo: {e}"))?;
     let text = String::from_utf8_lossy(&output.stdout);
     let last = text.lines().last().unwrap_or_default();
-    let number = last.strip_suffix(" stored answers differ").and_then(|line| line.split(' ').next());
+    let number = last
+        .strip_suffix(" stored answers differ")
+        .and_then(|line| line.split(' ').next());
     number
         .and_then(|number| number.parse().ok())
-        .ok_or_else(|| format!("{} to {}: {}", version.old, version.new, String::from_utf8_lossy(&output.stderr)))
+        .ok_or_else(|| {
+            format!(
+                "{} to {}: {}",
+                version.old,
+                version.new,
+                String::from_utf8_lossy(&output.stderr)
+            )
+        })
 }
 
 #[cfg(test)]

@@ -7,14 +7,20 @@ use compare::records::header_names;
 use compare::rule::Rule;
 use compare::{replay, rules, run, stored};
 
-const FILE: &str = concat!(env!("CARGO_MANIFEST_DIR"), "/../../crates/vectors/data/answers");
+const FILE: &str = concat!(
+    env!("CARGO_MANIFEST_DIR"),
+    "/../../crates/vectors/data/answers"
+);
 
 #[test]
 fn the_file_has_the_chosen_answers() {
     let bytes = std::fs::read(FILE).unwrap();
     let list = choice::list(1);
     assert!(bytes.len() < 2_000_000, "{} bytes", bytes.len());
-    assert!(stored::file(&list) == bytes, "write it again: compare --vectors {FILE}");
+    assert!(
+        stored::file(&list) == bytes,
+        "write it again: compare --vectors {FILE}"
+    );
     assert_eq!(stored::list(&bytes), list);
     assert!(list.iter().all(replay::agrees));
 }
@@ -25,7 +31,8 @@ fn our_library_gives_the_stored_answers() {
     for case in choice::cases(1) {
         rules::expected(&case, &mut outcome);
         // A record of the crate's types has no buffer that is too short, and no unknown number in an enum.
-        let by_type = case.kind == Kind::ParseTileInfoFrmhdr && (case.args[0] > 3 || case.args[148] > 2);
+        let by_type =
+            case.kind == Kind::ParseTileInfoFrmhdr && (case.args[0] > 3 || case.args[148] > 2);
         if outcome.rule != Some(Rule::Short) && !by_type {
             assert!(!run::differs(&case), "{case:?}");
         }

@@ -1,12 +1,12 @@
 //! What document 01 alone decides: added limits, the domain, short buffers, rectangles.
 
 use crate::case::{Case, Outcome, Place};
-use crate::rules::expected;
 use crate::kind::Kind;
 use crate::make::layouts::{PAIRS, layout_by_hand};
 use crate::make::make;
 use crate::records::TILE;
 use crate::rng::Rng;
+use crate::rules::expected;
 
 const TOP: i64 = 1 << 31;
 /// The most numbers that are lent for rectangles.
@@ -48,7 +48,16 @@ impl Adder<'_> {
 
     /// Arguments on both sides of the limits that document 01 adds.
     fn limits(&mut self) {
-        for max in [TOP - 2, TOP - 1, TOP, TOP + 1, TOP + 5, 3 << 30, 2 * TOP - 2, 2 * TOP - 1] {
+        for max in [
+            TOP - 2,
+            TOP - 1,
+            TOP,
+            TOP + 1,
+            TOP + 5,
+            3 << 30,
+            2 * TOP - 2,
+            2 * TOP - 1,
+        ] {
             for _ in 0..4 {
                 self.case(Kind::GetUniform, vec![max]);
                 let def = self.rng.pick(&[0, 1, TOP - 1, max]);
@@ -60,7 +69,16 @@ impl Adder<'_> {
             }
         }
         let half = 1 << 30;
-        for n in [half - 1, half, half + 1, half + 2, TOP - 1, TOP, TOP + 1, 2 * TOP - 1] {
+        for n in [
+            half - 1,
+            half,
+            half + 1,
+            half + 2,
+            TOP - 1,
+            TOP,
+            TOP + 1,
+            2 * TOP - 1,
+        ] {
             for ref_val in [-half, -half - 1, -1, 0, 1, half - 1, half, TOP - 1, -TOP] {
                 self.case(Kind::GetBitsSubexp, vec![ref_val, n]);
             }
@@ -78,7 +96,19 @@ impl Adder<'_> {
                 }
             }
         }
-        let sizes = [-TOP, -65_536, -1, 0, 1, 2, 65_535, 65_536, 65_537, 131_072, TOP - 1];
+        let sizes = [
+            -TOP,
+            -65_536,
+            -1,
+            0,
+            1,
+            2,
+            65_535,
+            65_536,
+            65_537,
+            131_072,
+            TOP - 1,
+        ];
         let bytes = [0, 1, 2, 30, 31, 32, 33, 64, 255];
         for at in 3..7 {
             for &value in if at < 5 { &sizes[..] } else { &bytes[..] } {

@@ -46,7 +46,11 @@ struct Adder<'a> {
 
 impl Adder<'_> {
     fn case(&mut self, frame_type: i64, size: [i64; 2], seq: Sequence) {
-        if size.iter().chain(&seq.size).any(|n| !(1..=LARGEST).contains(n)) {
+        if size
+            .iter()
+            .chain(&seq.size)
+            .any(|n| !(1..=LARGEST).contains(n))
+        {
             return;
         }
         let mut args = vec![frame_type, size[0], size[1], self.rng.range(0, 3)];
@@ -122,7 +126,8 @@ impl Adder<'_> {
                         let code = self.rng.range(0, 2);
                         let frame_type = self.rng.range(0, 3);
                         let side = 64 << frame_code(frame_type, code);
-                        let edge = (m * ((1 << log2) - 1) + d) * side - self.rng.pick(&[0, 1, side - 1]);
+                        let edge =
+                            (m * ((1 << log2) - 1) + d) * side - self.rng.pick(&[0, 1, side - 1]);
                         let other_log2 = self.rng.range(0, 2);
                         let other = side * self.rng.range(1, 16);
                         let (size, logs) = if way % 2 == 0 {
@@ -168,7 +173,8 @@ impl Adder<'_> {
             let code = i % 3;
             let frame_type = i / 3 % 4;
             let side = 64 << code;
-            let mut near = |most| side * self.rng.range(1, most) + self.rng.pick(&[-8, -7, -1, 0, 1]);
+            let mut near =
+                |most| side * self.rng.range(1, most) + self.rng.pick(&[-8, -7, -1, 0, 1]);
             let size = [near(40), near(12)];
             let layout = self.layout(1, [6, 6]);
             let mut seq = self.sequence(code, size, layout);

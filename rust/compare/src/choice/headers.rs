@@ -2,16 +2,34 @@
 
 use crate::bits::BitWriter;
 use crate::case::{Case, Outcome, Place};
-use crate::rules::expected;
 use crate::kind::Kind;
 use crate::make::header::wished;
 use crate::rng::Rng;
+use crate::rules::expected;
 
 /// Values of a field, each in so many headers.
 type Boundary = (&'static str, &'static [u64], usize);
 
 const BOUNDARIES: [Boundary; 28] = [
-    ("id", &[0, 1, 2, 127, 128, 254, 255, 256, 257, 511, 512, 65_791, 4_294_967_294], 2),
+    (
+        "id",
+        &[
+            0,
+            1,
+            2,
+            127,
+            128,
+            254,
+            255,
+            256,
+            257,
+            511,
+            512,
+            65_791,
+            4_294_967_294,
+        ],
+        2,
+    ),
     (
         "profile",
         &[
@@ -19,17 +37,23 @@ const BOUNDARIES: [Boundary; 28] = [
         ],
         3,
     ),
-    ("level", &[0, 1, 2, 3, 4, 5, 7, 8, 13, 14, 15, 16, 17, 18, 19, 30, 31], 6),
+    (
+        "level",
+        &[0, 1, 2, 3, 4, 5, 7, 8, 13, 14, 15, 16, 17, 18, 19, 30, 31],
+        6,
+    ),
     (
         "layout",
-        &[0, 1, 2, 3, 4, 5, 7, 8, 255, 256, 257, 258, 259, 260, 512, 65_536, 65_539],
+        &[
+            0, 1, 2, 3, 4, 5, 7, 8, 255, 256, 257, 258, 259, 260, 512, 65_536, 65_539,
+        ],
         4,
     ),
     (
         "depth",
         &[
-            0, 1, 2, 3, 4, 5, 253, 254, 255, 256, 257, 258, 259, 260, 512, 514, 515, 65_536, 65_538,
-            65_539,
+            0, 1, 2, 3, 4, 5, 253, 254, 255, 256, 257, 258, 259, 260, 512, 514, 515, 65_536,
+            65_538, 65_539,
         ],
         4,
     ),
@@ -37,7 +61,13 @@ const BOUNDARIES: [Boundary; 28] = [
     ("height_bits", &[0, 1, 7, 8, 14, 15], 4),
     ("width", &[0, 1, 0xFFFF], 5),
     ("height", &[0, 1, 0xFFFF], 5),
-    ("delta", &[0x000, 0x15E, 0x15F, 0x160, 0x1FF, 0x200, 0x2A0, 0x2A1, 0x2A2, 0x3FF], 3),
+    (
+        "delta",
+        &[
+            0x000, 0x15E, 0x15F, 0x160, 0x1FF, 0x200, 0x2A0, 0x2A1, 0x2A2, 0x3FF,
+        ],
+        3,
+    ),
     ("filter", &[0, 1, 2, 3], 4),
     ("modes", &[0, 1, 2, 4, 8, 15], 4),
     ("order", &[0, 7, 15], 3),
@@ -50,10 +80,26 @@ const BOUNDARIES: [Boundary; 28] = [
     ("uvdc", &[0, 1, 15, 22, 23, 24, 31], 4),
     ("uvac", &[0, 1, 15, 22, 23, 24, 31], 4),
     ("bits", &[0, 1, 2, 3], 3),
-    ("left", &[0, 1, 255, 256, 65_536, 2_147_483_648, 4_294_967_294], 2),
-    ("right", &[0, 1, 255, 256, 65_536, 2_147_483_648, 4_294_967_294], 2),
-    ("top", &[0, 1, 255, 256, 65_536, 2_147_483_648, 4_294_967_294], 2),
-    ("bottom", &[0, 1, 255, 256, 65_536, 2_147_483_648, 4_294_967_294], 2),
+    (
+        "left",
+        &[0, 1, 255, 256, 65_536, 2_147_483_648, 4_294_967_294],
+        2,
+    ),
+    (
+        "right",
+        &[0, 1, 255, 256, 65_536, 2_147_483_648, 4_294_967_294],
+        2,
+    ),
+    (
+        "top",
+        &[0, 1, 255, 256, 65_536, 2_147_483_648, 4_294_967_294],
+        2,
+    ),
+    (
+        "bottom",
+        &[0, 1, 255, 256, 65_536, 2_147_483_648, 4_294_967_294],
+        2,
+    ),
     ("trailing", &[0, 1], 12),
     ("tip", &[0, 1], 8),
 ];
@@ -143,7 +189,12 @@ impl Adder<'_> {
     fn references(&mut self) {
         for frames in 0..16 {
             for _ in 0..5 {
-                self.header(&[("reduced", 0), ("told", 1), ("frames", frames), ("tiling", 0)]);
+                self.header(&[
+                    ("reduced", 0),
+                    ("told", 1),
+                    ("frames", frames),
+                    ("tiling", 0),
+                ]);
             }
         }
         for _ in 0..8 {
@@ -190,7 +241,12 @@ impl Adder<'_> {
         for i in 0..450 {
             let layout = self.rng.below(4);
             let reduced = self.rng.below(5) / 4;
-            let wishes = [("layout", layout), ("depth", i % 3), ("reduced", reduced), ("tiling", 0)];
+            let wishes = [
+                ("layout", layout),
+                ("depth", i % 3),
+                ("reduced", reduced),
+                ("tiling", 0),
+            ];
             let few = if i % 3 == 0 { 3 } else { 4 };
             self.header(&wishes[..few]);
         }
@@ -200,7 +256,15 @@ impl Adder<'_> {
     /// Headers that end a few bits before their last one, or anywhere.
     fn cut(&mut self) {
         for i in 0..240 {
-            let data = wished(self.rng, &[("profile", 1), ("layout", i / 2 % 4), ("depth", 0), ("tiling", i % 2)]);
+            let data = wished(
+                self.rng,
+                &[
+                    ("profile", 1),
+                    ("layout", i / 2 % 4),
+                    ("depth", 0),
+                    ("tiling", i % 2),
+                ],
+            );
             let mut bits = BitWriter::default();
             for &byte in &data {
                 bits.bits(byte.into(), 8);

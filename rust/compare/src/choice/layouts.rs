@@ -32,7 +32,10 @@ fn limits(code: i64, level: i64, tier: i64) -> (i64, i64) {
     let (a, b) = (i64::from(level >= 14), i64::from(level >= 18));
     let c = a * tier;
     let side = 64 << code;
-    ((4096 << (b + c)) / side, (9_437_184 << (a + b + c)) / (side * side))
+    (
+        (4096 << (b + c)) / side,
+        (9_437_184 << (a + b + c)) / (side * side),
+    )
 }
 
 struct Adder<'a> {
@@ -133,7 +136,11 @@ impl Adder<'_> {
             for i in 0..near.len() {
                 for way in 0..3 {
                     let other = near[self.rng.below(near.len() as u64) as usize];
-                    let size = if way == 1 { [other, near[i]] } else { [near[i], other] };
+                    let size = if way == 1 {
+                        [other, near[i]]
+                    } else {
+                        [near[i], other]
+                    };
                     let (cols, rows) = (self.rng.below(5), self.rng.below(5));
                     let bits = self.uniform(cols, rows);
                     let level = self.level();
@@ -147,11 +154,17 @@ impl Adder<'_> {
     fn counts_of_tiles(&mut self) {
         for pair in PAIRS {
             let side = 64 << pair[1];
-            for k in [1, 2, 3, 4, 5, 7, 8, 9, 15, 16, 17, 31, 32, 33, 63, 64, 65, 66, 127, 128, 129] {
+            for k in [
+                1, 2, 3, 4, 5, 7, 8, 9, 15, 16, 17, 31, 32, 33, 63, 64, 65, 66, 127, 128, 129,
+            ] {
                 for way in 0..4 {
                     let edge = k * side + self.rng.pick(&[-1, 0, 0, 1]);
                     let other = side * self.rng.range(1, 20) + self.rng.range(-8, 1);
-                    let size = if way % 2 == 0 { [edge, other] } else { [other, edge] };
+                    let size = if way % 2 == 0 {
+                        [edge, other]
+                    } else {
+                        [other, edge]
+                    };
                     let bits = if way < 2 {
                         self.uniform(8, 8)
                     } else {

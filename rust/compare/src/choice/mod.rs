@@ -12,10 +12,10 @@ mod readings;
 mod segments;
 
 use crate::case::{Case, Outcome};
-use crate::rules::expected;
 use crate::kind::Kind;
 use crate::make::make;
 use crate::rng::Rng;
+use crate::rules::expected;
 use crate::stored::{self, Stored};
 
 /// The cases; the seed is that of the numbers that are left to chance.

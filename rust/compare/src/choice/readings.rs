@@ -2,9 +2,9 @@
 
 use crate::bits::BitWriter;
 use crate::case::{Case, Outcome, Place};
-use crate::rules::expected;
 use crate::kind::Kind;
 use crate::rng::Rng;
+use crate::rules::expected;
 
 const TOP: i64 = 1 << 31;
 
@@ -198,7 +198,16 @@ impl Adder<'_> {
             return vec![0; 4];
         }
         let short = (2 << max.ilog2()) - max;
-        let mut values = vec![0, 1, short - 1, short, short + 1, short + 2, max - 2, max - 1];
+        let mut values = vec![
+            0,
+            1,
+            short - 1,
+            short,
+            short + 1,
+            short + 2,
+            max - 2,
+            max - 1,
+        ];
         values.retain(|value| (0..max).contains(value));
         values.sort_unstable();
         values.dedup();
@@ -218,7 +227,18 @@ impl Adder<'_> {
 
     fn ref_uniform(&mut self) {
         for max in EDGES {
-            let mut defs = vec![0, 1, 2, max / 2, max - 3, max - 2, max - 1, max, max + 1, 2 * TOP - 1];
+            let mut defs = vec![
+                0,
+                1,
+                2,
+                max / 2,
+                max - 3,
+                max - 2,
+                max - 1,
+                max,
+                max + 1,
+                2 * TOP - 1,
+            ];
             defs.retain(|&def| def >= 0);
             defs.sort_unstable();
             defs.dedup();

@@ -9,10 +9,10 @@ pub mod layouts;
 mod readings;
 
 use crate::case::{Case, Outcome, Place, Source};
-use crate::rules::expected;
 use crate::kind::Kind;
 use crate::records::SEG;
 use crate::rng::Rng;
+use crate::rules::expected;
 
 /// Makes a case of the kind that `case` has, in place of what is in it.
 pub fn make(rng: &mut Rng, case: &mut Case, scratch: &mut Outcome) -> Source {
