@@ -1,22 +1,25 @@
-// Replays the Rust's answers that the file `answers` has, and prints for each operation how many were replayed and how many agree.
+// Replays the stored answers that the file `answers` has, and prints for each operation how many were replayed and how many agree.
 ghost use mathlib.Core.Path.{_≡_};
 ghost use Prim.Native.Nat.{_^_, _<_, _≤_};
 ghost use lib.ListN.{length};
-use capi::mubanlig_bytealign;
-use capi::mubanlig_get_bit;
-use capi::mubanlig_get_bits;
-use capi::mubanlig_get_bits_subexp;
-use capi::mubanlig_get_bits_subexp_u;
-use capi::mubanlig_get_golomb;
-use capi::mubanlig_get_ref_uniform;
-use capi::mubanlig_get_sbits;
-use capi::mubanlig_get_uleb128;
-use capi::mubanlig_get_uniform;
-use capi::mubanlig_get_vlc;
 use capi::mubanlig_parse_seg_info;
 use capi::mubanlig_parse_seq_hdr;
 use capi::mubanlig_parse_tile_info;
 use capi::mubanlig_parse_tile_info_frmhdr;
+use capi::mubanlig_tile_rectangles;
+use capi_bits::mubanlig_byte_pos;
+use capi_bits::mubanlig_bytealign;
+use capi_bits::mubanlig_get_bit;
+use capi_bits::mubanlig_get_bits;
+use capi_bits::mubanlig_get_bits_subexp;
+use capi_bits::mubanlig_get_bits_subexp_u;
+use capi_bits::mubanlig_get_golomb;
+use capi_bits::mubanlig_get_ref_uniform;
+use capi_bits::mubanlig_get_sbits;
+use capi_bits::mubanlig_get_uleb128;
+use capi_bits::mubanlig_get_uniform;
+use capi_bits::mubanlig_get_vlc;
+use capi_bits::mubanlig_remaining_bytes;
 use codes::get_uleb128;
 use getbits::Place;
 use libc::STDOUT_FILENO;
@@ -28,10 +31,17 @@ struct Row {
     next: Place,
 }
 
+// A number of a row, how many zeros follow it, and the place behind it.
+struct Number {
+    value: u32,
+    zeros: u32,
+    next: Place,
+}
+
 // How many cases of each operation were replayed, and how many agree.
 struct Tally {
-    replayed: [u32; 15],
-    agree: [u32; 15],
+    replayed: [u32; 17],
+    agree: [u32; 17],
 }
 
 struct Verdict {
@@ -76,34 +86,6 @@ fn signed_at(xs: &[u32], i: usize) -> i32 {
     signed(at(xs, i))
 }
 
-fn wide(x: i32) -> i64 {
-    x as i64
-}
-
-// The 139 numbers of a layout, from i on.
-fn layout_at(xs: &[u32], i: usize) -> [u16; 139]
-    requires { ⌜ i ≤ 512 ⌝ }
-{
-    let mut words = [0u16; 139];
-    let mut k: usize = 0;
-    while k < 139 {
-        words[k] = word_at(xs, i + k);
-        k += 1;
-    }
-    words
-}
-
-// The 16 deltas of the segments.
-fn deltas_of(xs: &[u32]) -> [i16; 16] {
-    let mut delta_q = [0i16; 16];
-    let mut k: usize = 0;
-    while k < 16 {
-        delta_q[k] = delta_at(xs, k);
-        k += 1;
-    }
-    delta_q
-}
-
 // -1 - x
 fn delta_below_zero(x: u32) -> i16
     requires { ⌜ x < 2 ^ 15 ⌝ }
@@ -120,6 +102,88 @@ fn delta_at(xs: &[u32], i: usize) -> i16 {
     delta_below_zero(0xffff - n)
 }
 
+fn wide(x: i32) -> i64 {
+    x as i64
+}
+
+fn wide_delta(x: i16) -> i64 {
+    x as i64
+}
+
+fn wide_number(x: u32) -> i64 {
+    x as i64
+}
+
+fn wide_word(x: u16) -> i64 {
+    x as i64
+}
+
+fn wide_byte(x: u8) -> i64 {
+    x as i64
+}
+
+// A count of bits or bytes; no case has one from 2^31 on.
+fn count(n: usize) -> i64 {
+    if n < 0x8000_0000 { n as i64 } else { 0x8000_0000 }
+}
+
+// The number at i, at most `most`.
+fn held_at(xs: &[u32], i: usize, most: usize) -> usize
+    ensures { λ r. ⌜ r ≤ most ⌝ }
+{
+    let n = at(xs, i) as usize;
+    if n < most { n } else { most }
+}
+
+// The nine numbers of a layout from i on, in a buffer with room for two more.
+fn info_at(xs: &[u32], i: usize) -> [u8; 11]
+    requires { ⌜ i ≤ 512 ⌝ }
+{
+    let mut info = [0u8; 11];
+    let mut k: usize = 0;
+    while k < 9 {
+        info[k] = byte_at(xs, i + k);
+        k += 1;
+    }
+    info
+}
+
+// The 65 starts from i on, in a buffer with room for two more.
+fn starts_at(xs: &[u32], i: usize) -> [u16; 67]
+    requires { ⌜ i ≤ 512 ⌝ }
+{
+    let mut starts = [0u16; 67];
+    let mut k: usize = 0;
+    while k < 65 {
+        starts[k] = word_at(xs, i + k);
+        k += 1;
+    }
+    starts
+}
+
+// The 16 deltas of the segments, in a buffer with room for two more.
+fn deltas_of(xs: &[u32]) -> [i16; 18] {
+    let mut delta_q = [0i16; 18];
+    let mut k: usize = 0;
+    while k < 16 {
+        delta_q[k] = delta_at(xs, k);
+        k += 1;
+    }
+    delta_q
+}
+
+// Numbers from the first one on.
+fn numbers_from(first: u32) -> [u32; 450] {
+    let low = first % 0x4000_0000;
+    let mut numbers = [0u32; 450];
+    let mut k: usize = 0;
+    while k < 450 {
+        numbers[k] = low + k as u32;
+        k += 1;
+    }
+    numbers
+}
+
 fn put(out: &mut [i64], i: usize, n: i64)
     ensures { λ _. ⌜ length (now (out .exit)) ≡ length (now (out .entry)) ⌝ }
 {
@@ -128,77 +192,115 @@ fn put(out: &mut [i64], i: usize, n: i64)
     }
 }
 
-fn wide_word(x: u16) -> i64 {
-    x as i64
+fn byte_in(xs: &[u8], k: usize) -> i64 {
+    if k < xs.len() { wide_byte(xs[k]) } else { 0 }
 }
 
-fn wide_number(x: u32) -> i64 {
-    x as i64
-}
-
-fn wide_code(x: u8) -> i64 {
-    x as i64
-}
-
-fn wide_delta(x: i16) -> i64 {
-    x as i64
-}
-
-// Word k goes to place i + k.
-fn put_word(out: &mut [i64], i: usize, words: &[u16], k: usize)
-    requires { ⌜ (i ≤ 512) × (k < length (now words)) × (k ≤ 512) ⌝ }
+// The first n bytes go to the places from i on.
+fn put_bytes(out: &mut [i64], i: usize, xs: &[u8], n: usize)
+    requires { ⌜ (i ≤ 512) × (n ≤ 512) ⌝ }
     ensures { λ _. ⌜ length (now (out .exit)) ≡ length (now (out .entry)) ⌝ }
 {
-    put(&mut *out, i + k, wide_word(words[k]));
-}
-
-fn put_words(out: &mut [i64], i: usize, words: &[u16])
-    requires { ⌜ (i ≤ 512) × (length (now words) ≤ 512) ⌝ }
-{
     let mut k: usize = 0;
-    while k < words.len() {
-        put_word(&mut *out, i, words, k);
+    while k < n {
+        put(&mut *out, i + k, byte_in(xs, k));
         k += 1;
     }
 }
 
-fn put_delta(out: &mut [i64], i: usize, deltas: &[i16], k: usize)
-    requires { ⌜ (i ≤ 512) × (k < length (now deltas)) × (k ≤ 512) ⌝ }
-    ensures { λ _. ⌜ length (now (out .exit)) ≡ length (now (out .entry)) ⌝ }
-{
-    put(&mut *out, i + k, wide_delta(deltas[k]));
+fn word_in(xs: &[u16], k: usize) -> i64 {
+    if k < xs.len() { wide_word(xs[k]) } else { 0 }
 }
 
-fn put_deltas(out: &mut [i64], i: usize, deltas: &[i16])
-    requires { ⌜ (i ≤ 512) × (length (now deltas) ≤ 512) ⌝ }
+// The first n words go to the places from i on.
+fn put_words(out: &mut [i64], i: usize, xs: &[u16], n: usize)
+    requires { ⌜ (i ≤ 512) × (n ≤ 512) ⌝ }
+    ensures { λ _. ⌜ length (now (out .exit)) ≡ length (now (out .entry)) ⌝ }
 {
     let mut k: usize = 0;
-    while k < deltas.len() {
-        put_delta(&mut *out, i, deltas, k);
+    while k < n {
+        put(&mut *out, i + k, word_in(xs, k));
         k += 1;
     }
 }
 
-// A byte's index; no case has one from 65,536 on.
-fn index(byte: usize) -> i64 {
-    if byte < 65536 { byte as i64 } else { 65536 }
+fn delta_in(xs: &[i16], k: usize) -> i64 {
+    if k < xs.len() { wide_delta(xs[k]) } else { 0 }
 }
 
-fn replay_layout(
+// The first n deltas go to the places from i on.
+fn put_deltas(out: &mut [i64], i: usize, xs: &[i16], n: usize)
+    requires { ⌜ (i ≤ 512) × (n ≤ 512) ⌝ }
+    ensures { λ _. ⌜ length (now (out .exit)) ≡ length (now (out .entry)) ⌝ }
+{
+    let mut k: usize = 0;
+    while k < n {
+        put(&mut *out, i + k, delta_in(xs, k));
+        k += 1;
+    }
+}
+
+fn number_in(xs: &[u32], k: usize) -> i64 {
+    if k < xs.len() { wide_number(xs[k]) } else { 0 }
+}
+
+// The first n numbers go to the places from i on.
+fn put_numbers(out: &mut [i64], i: usize, xs: &[u32], n: usize)
+    requires { ⌜ (i ≤ 512) × (n ≤ 512) ⌝ }
+    ensures { λ _. ⌜ length (now (out .exit)) ≡ length (now (out .entry)) ⌝ }
+{
+    let mut k: usize = 0;
+    while k < n {
+        put(&mut *out, i + k, number_in(xs, k));
+        k += 1;
+    }
+}
+
+fn field_in(xs: &[i64], k: usize) -> i64 {
+    if k < xs.len() { xs[k] } else { 0 }
+}
+
+// The first n fields go to the places from i on.
+fn put_fields(out: &mut [i64], i: usize, xs: &[i64], n: usize)
+    requires { ⌜ (i ≤ 512) × (n ≤ 512) ⌝ }
+    ensures { λ _. ⌜ length (now (out .exit)) ≡ length (now (out .entry)) ⌝ }
+{
+    let mut k: usize = 0;
+    while k < n {
+        put(&mut *out, i + k, field_in(xs, k));
+        k += 1;
+    }
+}
+
+// The 139 numbers of a layout go to the places from i on.
+fn put_layout(out: &mut [i64], i: usize, info: &[u8], cols: &[u16], rows: &[u16])
+    requires { ⌜ i ≤ 200 ⌝ }
+{
+    put_bytes(&mut *out, i, info, 9);
+    put_words(&mut *out, i + 9, cols, 65);
+    put_words(&mut *out, i + 74, rows, 65);
+}
+
+// The layout's buffers are lent as long as the arguments say, and so below.
+fn lend_layout(
     s: &[u8],
-    byte: &mut usize,
-    used: &mut u32,
-    error: &mut u32,
+    position: &mut usize,
+    error: &mut u8,
     args: &[u32],
-    out: &mut [i64],
-) -> i64 {
-    let mut info = layout_at(args, 0);
-    let answer = mubanlig_parse_tile_info(
+    info: &mut [u8],
+    cols: &mut [u16],
+    rows: &mut [u16],
+) -> u32 {
+    let a = held_at(args, 146, info.len());
+    let b = held_at(args, 147, cols.len());
+    let c = held_at(args, 148, rows.len());
+    mubanlig_parse_tile_info(
         s,
-        &mut *byte,
-        &mut *used,
+        &mut *position,
         &mut *error,
-        &mut info,
+        &mut info[..a],
+        &mut cols[..b],
+        &mut rows[..c],
         signed_at(args, 139),
         byte_at(args, 140),
         byte_at(args, 141),
@@ -206,129 +308,277 @@ fn replay_layout(
         signed_at(args, 143),
         byte_at(args, 144),
         byte_at(args, 145),
-    );
-    put_words(out, 0, &info);
-    answer as i64
+    )
 }
 
+fn replay_layout(
+    s: &[u8],
+    position: &mut usize,
+    error: &mut u8,
+    args: &[u32],
+    out: &mut [i64],
+) -> u32 {
+    let mut info = info_at(args, 0);
+    let mut cols = starts_at(args, 9);
+    let mut rows = starts_at(args, 74);
+    let answer = lend_layout(
+        s,
+        &mut *position,
+        &mut *error,
+        args,
+        &mut info,
+        &mut cols,
+        &mut rows,
+    );
+    put_layout(&mut *out, 3, &info, &cols, &rows);
+    answer
+}
+
+fn lend_header(
+    s: &[u8],
+    position: &mut usize,
+    error: &mut u8,
+    args: &[u32],
+    hdr: &mut [i64],
+    info: &mut [u8],
+    cols: &mut [u16],
+    rows: &mut [u16],
+) -> u32 {
+    let a = held_at(args, 1, hdr.len());
+    let b = held_at(args, 2, info.len());
+    let c = held_at(args, 3, cols.len());
+    let d = held_at(args, 4, rows.len());
+    mubanlig_parse_seq_hdr(
+        s,
+        &mut *position,
+        &mut *error,
+        byte_at(args, 0),
+        &mut hdr[..a],
+        &mut info[..b],
+        &mut cols[..c],
+        &mut rows[..d],
+    )
+}
+
+// Each number that is lent is 7 before.
 fn replay_header(
     s: &[u8],
-    byte: &mut usize,
-    used: &mut u32,
-    error: &mut u32,
+    position: &mut usize,
+    error: &mut u8,
     args: &[u32],
     out: &mut [i64],
-) -> i64 {
-    let strict = at(args, 0);
-    mubanlig_parse_seq_hdr(s, &mut *byte, &mut *used, &mut *error, strict, out) as i64
+) -> u32 {
+    let mut hdr = [7i64; 148];
+    let mut info = [7u8; 11];
+    let mut cols = [7u16; 67];
+    let mut rows = [7u16; 67];
+    let answer = lend_header(
+        s,
+        &mut *position,
+        &mut *error,
+        args,
+        &mut hdr,
+        &mut info,
+        &mut cols,
+        &mut rows,
+    );
+    put_fields(&mut *out, 3, &hdr, 146);
+    put_layout(&mut *out, 149, &info, &cols, &rows);
+    answer
 }
 
-fn replay_frame(
+fn lend_frame(
     s: &[u8],
-    byte: &mut usize,
-    used: &mut u32,
-    error: &mut u32,
+    position: &mut usize,
+    error: &mut u8,
     args: &[u32],
-    out: &mut [i64],
-) -> i64 {
-    let mut sb128 = byte_at(args, 3);
-    let mut tiling = layout_at(args, 4);
-    let seq_tiling = layout_at(args, 149);
-    let answer = mubanlig_parse_tile_info_frmhdr(
+    sb128: &mut u8,
+    info: &mut [u8],
+    cols: &mut [u16],
+    rows: &mut [u16],
+    seq_info: &[u8],
+    seq_cols: &[u16],
+    seq_rows: &[u16],
+) -> u32 {
+    let a = held_at(args, 288, info.len());
+    let b = held_at(args, 289, cols.len());
+    let c = held_at(args, 290, rows.len());
+    let d = held_at(args, 291, seq_info.len());
+    let e = held_at(args, 292, seq_cols.len());
+    let f = held_at(args, 293, seq_rows.len());
+    mubanlig_parse_tile_info_frmhdr(
         s,
-        &mut *byte,
-        &mut *used,
+        &mut *position,
         &mut *error,
         byte_at(args, 0),
         signed_at(args, 1),
         signed_at(args, 2),
-        &mut sb128,
-        &mut tiling,
+        &mut *sb128,
+        &mut info[..a],
+        &mut cols[..b],
+        &mut rows[..c],
         byte_at(args, 143),
         signed_at(args, 144),
         signed_at(args, 145),
         byte_at(args, 146),
         byte_at(args, 147),
         byte_at(args, 148),
-        &seq_tiling,
+        &seq_info[..d],
+        &seq_cols[..e],
+        &seq_rows[..f],
+    )
+}
+
+fn replay_frame(
+    s: &[u8],
+    position: &mut usize,
+    error: &mut u8,
+    args: &[u32],
+    out: &mut [i64],
+) -> u32 {
+    let mut sb128 = byte_at(args, 3);
+    let mut info = info_at(args, 4);
+    let mut cols = starts_at(args, 13);
+    let mut rows = starts_at(args, 78);
+    let seq_info = info_at(args, 149);
+    let seq_cols = starts_at(args, 158);
+    let seq_rows = starts_at(args, 223);
+    let answer = lend_frame(
+        s,
+        &mut *position,
+        &mut *error,
+        args,
+        &mut sb128,
+        &mut info,
+        &mut cols,
+        &mut rows,
+        &seq_info,
+        &seq_cols,
+        &seq_rows,
     );
-    put(&mut *out, 0, wide_code(sb128));
-    put_words(out, 1, &tiling);
-    answer as i64
+    put(&mut *out, 3, wide_byte(sb128));
+    put_layout(&mut *out, 4, &info, &cols, &rows);
+    answer
+}
+
+fn lend_segments(
+    s: &[u8],
+    position: &mut usize,
+    error: &mut u8,
+    args: &[u32],
+    delta_q: &mut [i16],
+    masks: &mut [u16],
+) -> u32 {
+    let a = held_at(args, 20, delta_q.len());
+    let b = held_at(args, 21, masks.len());
+    mubanlig_parse_seg_info(
+        s,
+        &mut *position,
+        &mut *error,
+        &mut delta_q[..a],
+        &mut masks[..b],
+        byte_at(args, 19),
+    )
 }
 
 fn replay_segments(
     s: &[u8],
-    byte: &mut usize,
-    used: &mut u32,
-    error: &mut u32,
+    position: &mut usize,
+    error: &mut u8,
     args: &[u32],
     out: &mut [i64],
-) -> i64 {
+) -> u32 {
     let mut delta_q = deltas_of(args);
-    let mut masks = [word_at(args, 16), word_at(args, 17), word_at(args, 18)];
-    let ext = at(args, 19);
-    let answer = mubanlig_parse_seg_info(
+    let mut masks = [word_at(args, 16), word_at(args, 17), word_at(args, 18), 0, 0];
+    let answer = lend_segments(
         s,
-        &mut *byte,
-        &mut *used,
+        &mut *position,
         &mut *error,
+        args,
         &mut delta_q,
         &mut masks,
-        ext,
     );
-    put_deltas(&mut *out, 0, &delta_q);
-    put_words(out, 16, &masks);
-    answer as i64
+    put_deltas(&mut *out, 3, &delta_q, 16);
+    put_words(&mut *out, 19, &masks, 3);
+    answer
+}
+
+fn lend_rectangles(
+    args: &[u32],
+    info: &[u8],
+    cols: &[u16],
+    rows: &[u16],
+    numbers: &mut [u32],
+    len: usize,
+) -> u32 {
+    let a = held_at(args, 142, info.len());
+    let b = held_at(args, 143, cols.len());
+    let c = held_at(args, 144, rows.len());
+    if len <= numbers.len() {
+        return mubanlig_tile_rectangles(
+            &info[..a],
+            &cols[..b],
+            &rows[..c],
+            byte_at(args, 139),
+            &mut numbers[..len],
+        );
+    }
+    6
+}
+
+// The answer, then the numbers lent; how many these are in all.
+fn replay_rectangles(args: &[u32], out: &mut [i64]) -> usize
+    ensures { λ r. ⌜ r ≤ 512 ⌝ }
+{
+    let info = info_at(args, 0);
+    let cols = starts_at(args, 9);
+    let rows = starts_at(args, 74);
+    let mut numbers = numbers_from(at(args, 141));
+    let len = held_at(args, 140, 450);
+    let answer = lend_rectangles(args, &info, &cols, &rows, &mut numbers, len);
+    put(&mut *out, 0, answer as i64);
+    put_numbers(&mut *out, 1, &numbers, len);
+    1 + len
 }
 
 // The value of a reading.
 fn replay_reading(
     kind: u32,
     s: &[u8],
-    byte: &mut usize,
-    used: &mut u32,
-    error: &mut u32,
+    position: &mut usize,
+    error: &mut u8,
     args: &[u32],
 ) -> i64 {
+    let p = &mut *position;
+    let e = &mut *error;
     match kind {
-        0 => mubanlig_get_bit(s, &mut *byte, &mut *used, &mut *error) as i64,
-        1 => mubanlig_get_bits(s, &mut *byte, &mut *used, &mut *error, signed_at(args, 0)) as i64,
-        2 => wide(mubanlig_get_sbits(s, &mut *byte, &mut *used, &mut *error, signed_at(args, 0))),
-        3 => mubanlig_get_vlc(s, &mut *byte, &mut *used, &mut *error) as i64,
-        4 => mubanlig_get_uniform(s, &mut *byte, &mut *used, &mut *error, at(args, 0)) as i64,
-        5 => mubanlig_get_ref_uniform(
-            s,
-            &mut *byte,
-            &mut *used,
-            &mut *error,
-            at(args, 0),
-            at(args, 1),
-        ) as i64,
-        6 => mubanlig_get_uleb128(s, &mut *byte, &mut *used, &mut *error) as i64,
-        7 => mubanlig_get_golomb(s, &mut *byte, &mut *used, &mut *error, at(args, 0)) as i64,
+        0 => mubanlig_get_bit(s, &mut *p, &mut *e) as i64,
+        1 => mubanlig_get_bits(s, &mut *p, &mut *e, signed_at(args, 0)) as i64,
+        2 => wide(mubanlig_get_sbits(s, &mut *p, &mut *e, signed_at(args, 0))),
+        3 => mubanlig_get_vlc(s, &mut *p, &mut *e) as i64,
+        4 => mubanlig_get_uniform(s, &mut *p, &mut *e, at(args, 0)) as i64,
+        5 => mubanlig_get_ref_uniform(s, &mut *p, &mut *e, at(args, 0), at(args, 1)) as i64,
+        6 => mubanlig_get_uleb128(s, &mut *p, &mut *e) as i64,
+        7 => mubanlig_get_golomb(s, &mut *p, &mut *e, at(args, 0)) as i64,
         8 => mubanlig_get_bits_subexp_u(
             s,
-            &mut *byte,
-            &mut *used,
-            &mut *error,
+            &mut *p,
+            &mut *e,
             at(args, 0),
             at(args, 1),
             signed_at(args, 2),
         ) as i64,
         9 => wide(mubanlig_get_bits_subexp(
             s,
-            &mut *byte,
-            &mut *used,
-            &mut *error,
+            &mut *p,
+            &mut *e,
             signed_at(args, 0),
             at(args, 1),
         )),
-        10 => {
-            mubanlig_bytealign(s, &mut *byte, &mut *used, &mut *error);
+        _ => {
+            mubanlig_bytealign(s, &mut *p);
             0
         }
-        _ => 0,
     }
 }
 
@@ -336,95 +586,92 @@ fn replay_reading(
 fn replay_record(
     kind: u32,
     s: &[u8],
-    byte: &mut usize,
-    used: &mut u32,
-    error: &mut u32,
+    position: &mut usize,
+    error: &mut u8,
     args: &[u32],
     out: &mut [i64],
-) -> i64 {
+) -> u32 {
     match kind {
-        11 => replay_layout(s, &mut *byte, &mut *used, &mut *error, args, &mut *out),
-        12 => replay_header(s, &mut *byte, &mut *used, &mut *error, args, &mut *out),
-        13 => replay_frame(s, &mut *byte, &mut *used, &mut *error, args, &mut *out),
-        14 => replay_segments(s, &mut *byte, &mut *used, &mut *error, args, &mut *out),
-        _ => 0,
+        11 => replay_layout(s, &mut *position, &mut *error, args, &mut *out),
+        12 => replay_header(s, &mut *position, &mut *error, args, &mut *out),
+        13 => replay_frame(s, &mut *position, &mut *error, args, &mut *out),
+        _ => replay_segments(s, &mut *position, &mut *error, args, &mut *out),
     }
 }
 
-fn replay_kind(
+fn replay_value(
     kind: u32,
     s: &[u8],
-    byte: &mut usize,
-    used: &mut u32,
-    error: &mut u32,
+    position: &mut usize,
+    error: &mut u8,
     args: &[u32],
     out: &mut [i64],
 ) -> i64 {
     if kind < 11 {
-        return replay_reading(kind, s, byte, used, error, args);
+        return replay_reading(kind, s, &mut *position, &mut *error, args);
     }
-    replay_record(kind, s, byte, used, error, args, out)
+    replay_record(kind, s, &mut *position, &mut *error, args, &mut *out) as i64
 }
 
-// No field can have both a number from 2^31 up and one below 0, so one of the two is meant.
+// How many numbers the outcome of a reading or of a parse function has.
+fn outcome_count(kind: u32) -> usize
+    ensures { λ r. ⌜ r ≤ 512 ⌝ }
+{
+    match kind {
+        11 => 142,
+        12 => 288,
+        13 => 143,
+        14 => 22,
+        _ => 3,
+    }
+}
+
+// Replays a case; its outcome goes into out, and so many numbers it has.
+fn replay_kind(kind: u32, s: &[u8], place: &[u32], args: &[u32], out: &mut [i64]) -> usize
+    ensures { λ r. ⌜ r ≤ 512 ⌝ }
+{
+    let mut position = at(place, 0) as usize;
+    let mut error = byte_at(place, 1);
+    if kind == 15 {
+        put(&mut *out, 0, count(mubanlig_byte_pos(s, position)));
+        put(&mut *out, 1, count(mubanlig_remaining_bytes(s, position)));
+        return 2;
+    }
+    if kind == 16 {
+        return replay_rectangles(args, &mut *out);
+    }
+    let value = replay_value(kind, s, &mut position, &mut error, args, &mut *out);
+    put(&mut *out, 0, value);
+    put(&mut *out, 1, count(position));
+    put(&mut *out, 2, wide_byte(error));
+    outcome_count(kind)
+}
+
+// No number can be both one from 2^31 up and one below 0, so one of the two is meant.
 fn same(ours: i64, stored: u32) -> bool {
     (ours == stored as i64) | (ours == wide(signed(stored)))
 }
 
-// Are the first n numbers those stored from `from` on?
-fn all_same(ours: &[i64], stored: &[u32], from: usize, n: usize) -> bool
-    requires { ⌜ (from ≤ 512) × (n ≤ 512) ⌝ }
+// Are the first n numbers the stored ones?
+fn all_same(ours: &[i64], stored: &[u32], n: usize) -> bool
+    requires { ⌜ n ≤ 512 ⌝ }
 {
     let mut good = true;
     let mut i: usize = 0;
     while i < n {
-        if i < ours.len() {
-            good = good & same(ours[i], at(stored, from + i));
-        }
+        good = good & same(field_in(ours, i), at(stored, i));
         i += 1;
     }
     good
 }
 
-// How many numbers the record of an operation has.
-fn record_count(kind: u32) -> usize
-    ensures { λ r. ⌜ r ≤ 285 ⌝ }
-{
-    match kind {
-        11 => 139,
-        12 => 285,
-        13 => 140,
-        14 => 19,
-        _ => 0,
-    }
-}
-
-// Is the outcome the stored one: the value, the place, then the record?
-fn is_stored(place: &[i64], record: &[i64], outcome: Row, n: usize) -> bool
-    requires { ⌜ n ≤ 285 ⌝ }
-{
-    let stored = outcome.numbers;
-    (outcome.count == 4 + n) & all_same(place, &stored, 0, 4) & all_same(record, &stored, 4, n)
-}
-
 fn agrees(kind: u32, s: &[u8], place: Row, args: Row, outcome: Row) -> bool {
     let start = place.numbers;
     let given = args.numbers;
-    let mut byte = at(&start, 0) as usize;
-    let mut used = at(&start, 1);
-    let mut error = at(&start, 2);
-    let mut record = [0i64; 512];
-    let value = replay_kind(
-        kind,
-        s,
-        &mut byte,
-        &mut used,
-        &mut error,
-        &given,
-        &mut record,
-    );
-    let after = [value, index(byte), wide_number(used), wide_number(error)];
-    is_stored(&after, &record, outcome, record_count(kind))
+    let stored = outcome.numbers;
+    let mut out = [0i64; 512];
+    let n = replay_kind(kind, s, &start, &given, &mut out);
+    (outcome.count == n) & all_same(&out, &stored, n)
 }
 
 fn at_most_512(n: u32) -> usize
@@ -433,15 +680,44 @@ fn at_most_512(n: u32) -> usize
     if n < 512 { n as usize } else { 512 }
 }
 
+// The next number of a row, behind which so many zeros are left; behind a 0 stands how many follow it.
+fn next_number(case: &[u8], p: Place, zeros: u32) -> Number {
+    if 0 < zeros {
+        return Number {
+            value: 0,
+            zeros: zeros - 1,
+            next: p,
+        };
+    }
+    let r = get_uleb128(case, p);
+    let behind = r.next;
+    if r.value == 0 {
+        let z = get_uleb128(case, behind);
+        let next = z.next;
+        return Number {
+            value: 0,
+            zeros: z.value,
+            next,
+        };
+    }
+    Number {
+        value: r.value,
+        zeros: 0,
+        next: behind,
+    }
+}
+
 // n numbers of a case, 512 at most.
 fn numbers(case: &[u8], p: Place, n: u32) -> Row {
     let count = at_most_512(n);
     let mut numbers = [0u32; 512];
     let mut next = p;
+    let mut zeros: u32 = 0;
     let mut i: usize = 0;
     while i < count {
-        let r = get_uleb128(case, next);
+        let r = next_number(case, next, zeros);
         numbers[i] = r.value;
+        zeros = r.zeros;
         next = r.next;
         i += 1;
     }
@@ -453,7 +729,7 @@ fn numbers(case: &[u8], p: Place, n: u32) -> Row {
 }
 
 // A row of numbers behind their count.
-fn counted_numbers(case: &[u8], p: Place) -> Row {
+fn counted_row(case: &[u8], p: Place) -> Row {
     let n = get_uleb128(case, p);
     numbers(case, n.next, n.value)
 }
@@ -477,9 +753,9 @@ fn replay(case: &[u8]) -> Verdict {
                 used: 0,
                 error: false,
             };
-            let place = numbers(case, behind, 3);
-            let args = counted_numbers(case, place.next);
-            let outcome = counted_numbers(case, args.next);
+            let place = counted_row(case, behind);
+            let args = counted_row(case, place.next);
+            let outcome = counted_row(case, args.next);
             return Verdict {
                 kind: kind.value as usize,
                 agrees: agrees(kind.value, &case[from..to], place, args, outcome),
@@ -487,14 +763,14 @@ fn replay(case: &[u8]) -> Verdict {
         }
     }
     Verdict {
-        kind: 15,
+        kind: 17,
         agrees: false,
     }
 }
 
-fn one_more(counts: [u32; 15], i: usize) -> [u32; 15] {
+fn one_more(counts: [u32; 17], i: usize) -> [u32; 17] {
     let mut after = counts;
-    if i < 15 {
+    if i < 17 {
         if counts[i] < 0xffff_ffff {
             after[i] = counts[i] + 1;
         }
@@ -506,11 +782,11 @@ fn counted(t: Tally, v: Verdict) -> Tally {
     let old_replayed = t.replayed;
     let old_agree = t.agree;
     let replayed = one_more(old_replayed, v.kind);
-    let agree = one_more(old_agree, if v.agrees { v.kind } else { 15 });
+    let agree = one_more(old_agree, if v.agrees { v.kind } else { 17 });
     Tally { replayed, agree }
 }
 
-fn wide_byte(x: u8) -> usize
+fn small(x: u8) -> usize
     ensures { λ r. ⌜ r < 256 ⌝ }
 {
     x as usize
@@ -520,7 +796,7 @@ fn wide_byte(x: u8) -> usize
 fn size_of(low: u8, high: u8) -> usize
     ensures { λ r. ⌜ r < 65536 ⌝ }
 {
-    wide_byte(low) + 256 * wide_byte(high)
+    small(low) + 256 * small(high)
 }
 
 fn read_case(fd: i32, case: &mut [u8], size: usize) {
@@ -534,7 +810,7 @@ fn replay_first(case: &[u8], size: usize) -> Verdict {
         return replay(&case[..size]);
     }
     Verdict {
-        kind: 15,
+        kind: 17,
         agrees: false,
     }
 }
@@ -588,7 +864,9 @@ fn print_name(kind: usize) {
         11 => print(b"parse_tile_info"),
         12 => print(b"parse_seq_hdr"),
         13 => print(b"parse_tile_info_frmhdr"),
-        _ => print(b"parse_seg_info"),
+        14 => print(b"parse_seg_info"),
+        15 => print(b"positions"),
+        _ => print(b"tile_rectangles"),
     }
 }
 
@@ -605,7 +883,7 @@ fn print_line(t: Tally, kind: usize) {
 }
 
 fn print_tally(t: Tally) {
-    for kind in 0..15 {
+    for kind in 0..17 {
         print_line(t, kind);
     }
 }
@@ -617,8 +895,8 @@ fn main() {
         return;
     }
     let none = Tally {
-        replayed: [0; 15],
-        agree: [0; 15],
+        replayed: [0; 17],
+        agree: [0; 17],
     };
     print_tally(replay_all(fd, none));
     libc::close(fd);

@@ -5,10 +5,10 @@ use Rattle.vectors.proofs.all_same.Statement.{statement}
 use Rattle.vectors.proofs.all_same.Tie as tie
 
 abbrev Inv-loop : tie.InvT-loop
-Inv-loop ours stored from n good₀ i₀ good i = i ≤ n
+Inv-loop ours stored n good₀ i₀ good i = i ≤ n
 
 abbrev μ-loop : tie.MeasureT-loop
-μ-loop ours stored from n good₀ i₀ good i = n - i
+μ-loop ours stored n good₀ i₀ good i = n - i
 
 pub all-same-spec : {M : Type 1} → statement M
 all-same-spec =
@@ -17,9 +17,7 @@ all-same-spec =
     Inv-loop
     μ-loop
     (λ c. search needs)
-    (λ c. search needs)
-    (λ c. search needs)
-    (λ c. search needs)
+    (λ c κs. search needs)
     (λ c κs. search needs)
     (λ c κs. search needs)
     (λ c. search needs)

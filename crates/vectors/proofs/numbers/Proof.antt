@@ -5,10 +5,10 @@ use Rattle.vectors.proofs.numbers.Statement.{statement}
 use Rattle.vectors.proofs.numbers.Tie as tie
 
 abbrev Inv-loop : tie.InvT-loop
-Inv-loop case n count numbers₀ next₀ i₀ numbers next i = (i ≤ count) × (count ≤ 512)
+Inv-loop case n count numbers₀ next₀ zeros₀ i₀ numbers next zeros i = (i ≤ count) × (count ≤ 512)
 
 abbrev μ-loop : tie.MeasureT-loop
-μ-loop case n count numbers₀ next₀ i₀ numbers next i = count - i
+μ-loop case n count numbers₀ next₀ zeros₀ i₀ numbers next zeros i = count - i
 
 pub numbers-spec : {M : Type 1} → statement M
 numbers-spec =

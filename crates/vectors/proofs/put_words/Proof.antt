@@ -7,10 +7,10 @@ use Rattle.vectors.proofs.put_words.Statement.{statement}
 use Rattle.vectors.proofs.put_words.Tie as tie
 
 abbrev Inv-loop : tie.InvT-loop
-Inv-loop out₀ i words k₀ out k = (k ≤ length words) × (length out ≡ length out₀)
+Inv-loop out₀ i xs n k₀ out k = (k ≤ n) × (length out ≡ length out₀)
 
 abbrev μ-loop : tie.MeasureT-loop
-μ-loop out₀ i words k₀ out k = length words - k
+μ-loop out₀ i xs n k₀ out k = n - k
 
 pub put-words-spec : {M : Type 1} → statement M
 put-words-spec =
@@ -19,6 +19,8 @@ put-words-spec =
     Inv-loop
     μ-loop
     (λ c. search needs)
+    (λ c. search needs)
+    (λ c κs. search needs)
     (λ c κs. search needs)
     (λ c. search needs)
     (λ c. search needs)

@@ -1,17 +1,17 @@
--- `vectors::layout_at` meets its contract. Assumes nothing.
+-- `vectors::info_at` meets its contract. Assumes nothing.
 use Prim.Native.Nat.{_-_, _≤_}
 use borrow.Author.Needs.{needs}
-use Rattle.vectors.proofs.layout_at.Statement.{statement}
-use Rattle.vectors.proofs.layout_at.Tie as tie
+use Rattle.vectors.proofs.info_at.Statement.{statement}
+use Rattle.vectors.proofs.info_at.Tie as tie
 
 abbrev Inv-loop : tie.InvT-loop
-Inv-loop xs i words₀ k₀ words k = k ≤ 139
+Inv-loop xs i info₀ k₀ info k = k ≤ 9
 
 abbrev μ-loop : tie.MeasureT-loop
-μ-loop xs i words₀ k₀ words k = 139 - k
+μ-loop xs i info₀ k₀ info k = 9 - k
 
-pub layout-at-spec : {M : Type 1} → statement M
-layout-at-spec =
+pub info-at-spec : {M : Type 1} → statement M
+info-at-spec =
     tie.close
     (tie.spec
     Inv-loop
@@ -19,7 +19,6 @@ layout-at-spec =
     (λ c. search needs)
     (λ c. search needs)
     (λ c κs. search needs)
-    (λ c. search needs)
     (λ c. search needs)
     (λ c. search needs)
     (λ c. search needs)
