@@ -2,9 +2,6 @@
 
 use std::fmt;
 
-/// What the functions of this crate answer.
-pub type Result<T> = std::result::Result<T, Error>;
-
 /// A refusal. It knows its number, and prints a sentence.
 ///
 /// ```
@@ -16,6 +13,7 @@ pub type Result<T> = std::result::Result<T, Error>;
 /// assert_eq!(refusal.to_string(), "the sequence header is invalid or too short");
 /// ```
 #[derive(Debug, Clone, Copy, PartialEq, Eq, Hash)]
+#[non_exhaustive]
 pub enum Error {
     /// 1: profile, layout, bit depth or reference frames of a sequence header, or its data ran out.
     InvalidSequenceHeader,
@@ -32,6 +30,7 @@ pub enum Error {
 
 impl Error {
     /// The number of this refusal, 1 to 5.
+    #[must_use]
     pub fn number(self) -> u32 {
         match self {
             Self::InvalidSequenceHeader => 1,
@@ -45,7 +44,7 @@ impl Error {
 
 /// The library's answer: 0 is accepted, any other number a refusal.
 #[inline]
-pub(crate) fn answer(number: u32) -> Result<()> {
+pub(crate) fn answer(number: u32) -> Result<(), Error> {
     match number {
         0 => Ok(()),
         1 => Err(Error::InvalidSequenceHeader),

@@ -1,53 +1,204 @@
 //! The C interface of the proved library. All unsafe code of this crate is here.
 //!
-//! Each wrapper hands over exact lengths and places that don't overlap; the library stays inside them.
+//! `include/mubanlig.h` says what each function does and what is owed to it: each pointer is good for its length, and
+//! nothing lent for writing overlaps anything else lent. References owe the same, so each wrapper is safe. The library
+//! stays inside what is lent, and writes into a layout's first byte nothing but 0 and 1.
 
-use crate::headers::MAX_SEGMENTS;
+use crate::error::{Error, answer};
+use crate::flat;
+use crate::headers::{
+    FrameType, MAX_SEGMENTS, MAX_TILE_COLS, MAX_TILE_ROWS, SequenceHeader, TileInfo,
+};
+use std::mem::{MaybeUninit, offset_of};
+use std::ptr;
 
-/// A place as the library takes it: an error of 0 is none.
-#[derive(Debug, Clone, Copy, Default)]
-pub(crate) struct RawPlace {
-    pub(crate) byte: usize,
-    pub(crate) used: u32,
-    pub(crate) error: u32,
+/// The bytes of a layout before its starts.
+pub(crate) const INFO_BYTES: usize = 9;
+/// The numbers of a sequence header.
+pub(crate) const HEADER_NUMBERS: usize = 146;
+
+// The first nine bytes of a `TileInfo` are those of the interface.
+const _: () = assert!(offset_of!(TileInfo, uniform) == 0 && size_of::<bool>() == 1);
+const _: () = assert!(offset_of!(TileInfo, min_log2_cols) == 1);
+const _: () = assert!(offset_of!(TileInfo, max_log2_cols) == 2);
+const _: () = assert!(offset_of!(TileInfo, log2_cols) == 3);
+const _: () = assert!(offset_of!(TileInfo, cols) == 4);
+const _: () = assert!(offset_of!(TileInfo, min_log2_rows) == 5);
+const _: () = assert!(offset_of!(TileInfo, max_log2_rows) == 6);
+const _: () = assert!(offset_of!(TileInfo, log2_rows) == 7);
+const _: () = assert!(offset_of!(TileInfo, rows) == 8);
+const _: () = assert!(offset_of!(TileInfo, col_start_sb) >= INFO_BYTES);
+const _: () = assert!(offset_of!(TileInfo, row_start_sb) >= INFO_BYTES);
+
+unsafe extern "C" {
+    #[cfg(test)]
+    fn mubanlig_bits_interface_2() -> u32;
+    fn mubanlig_get_bit(s: *const u8, s_len: usize, position: *mut usize, error: *mut u8) -> u32;
+    fn mubanlig_get_bits(
+        s: *const u8,
+        s_len: usize,
+        position: *mut usize,
+        error: *mut u8,
+        n: i32,
+    ) -> u32;
+    fn mubanlig_get_sbits(
+        s: *const u8,
+        s_len: usize,
+        position: *mut usize,
+        error: *mut u8,
+        n: i32,
+    ) -> i32;
+    fn mubanlig_get_vlc(s: *const u8, s_len: usize, position: *mut usize, error: *mut u8) -> u32;
+    fn mubanlig_get_uniform(
+        s: *const u8,
+        s_len: usize,
+        position: *mut usize,
+        error: *mut u8,
+        max: u32,
+    ) -> u32;
+    fn mubanlig_get_ref_uniform(
+        s: *const u8,
+        s_len: usize,
+        position: *mut usize,
+        error: *mut u8,
+        max: u32,
+        def: u32,
+    ) -> u32;
+    fn mubanlig_get_uleb128(
+        s: *const u8,
+        s_len: usize,
+        position: *mut usize,
+        error: *mut u8,
+    ) -> u32;
+    fn mubanlig_get_golomb(
+        s: *const u8,
+        s_len: usize,
+        position: *mut usize,
+        error: *mut u8,
+        k: u32,
+    ) -> u32;
+    fn mubanlig_get_bits_subexp_u(
+        s: *const u8,
+        s_len: usize,
+        position: *mut usize,
+        error: *mut u8,
+        ref_val: u32,
+        n: u32,
+        k: i32,
+    ) -> u32;
+    fn mubanlig_get_bits_subexp(
+        s: *const u8,
+        s_len: usize,
+        position: *mut usize,
+        error: *mut u8,
+        ref_val: i32,
+        n: u32,
+    ) -> i32;
+    fn mubanlig_bytealign(s: *const u8, s_len: usize, position: *mut usize);
+    fn mubanlig_byte_pos(s: *const u8, s_len: usize, position: usize) -> usize;
+    fn mubanlig_remaining_bytes(s: *const u8, s_len: usize, position: usize) -> usize;
+
+    #[cfg(test)]
+    fn mubanlig_interface_2() -> u32;
+    fn mubanlig_parse_seg_info(
+        s: *const u8,
+        s_len: usize,
+        position: *mut usize,
+        error: *mut u8,
+        delta_q: *mut i16,
+        delta_q_len: usize,
+        masks: *mut u16,
+        masks_len: usize,
+        ext: u8,
+    ) -> u32;
+    fn mubanlig_parse_tile_info(
+        s: *const u8,
+        s_len: usize,
+        position: *mut usize,
+        error: *mut u8,
+        info: *mut u8,
+        info_len: usize,
+        col_start_sb: *mut u16,
+        col_start_sb_len: usize,
+        row_start_sb: *mut u16,
+        row_start_sb_len: usize,
+        sbmul: i32,
+        sb128: u8,
+        seq_sb128: u8,
+        w: i32,
+        h: i32,
+        level: u8,
+        tier: u8,
+    ) -> u32;
+    fn mubanlig_parse_seq_hdr(
+        s: *const u8,
+        s_len: usize,
+        position: *mut usize,
+        error: *mut u8,
+        strict: u8,
+        hdr: *mut i64,
+        hdr_len: usize,
+        info: *mut u8,
+        info_len: usize,
+        col_start_sb: *mut u16,
+        col_start_sb_len: usize,
+        row_start_sb: *mut u16,
+        row_start_sb_len: usize,
+    ) -> u32;
+    fn mubanlig_parse_tile_info_frmhdr(
+        s: *const u8,
+        s_len: usize,
+        position: *mut usize,
+        error: *mut u8,
+        frame_type: u8,
+        width: i32,
+        height: i32,
+        sb128: *mut u8,
+        info: *mut u8,
+        info_len: usize,
+        col_start_sb: *mut u16,
+        col_start_sb_len: usize,
+        row_start_sb: *mut u16,
+        row_start_sb_len: usize,
+        seq_sb128: u8,
+        max_width: i32,
+        max_height: i32,
+        level: u8,
+        tier: u8,
+        present: u8,
+        seq_info: *const u8,
+        seq_info_len: usize,
+        seq_col_start_sb: *const u16,
+        seq_col_start_sb_len: usize,
+        seq_row_start_sb: *const u16,
+        seq_row_start_sb_len: usize,
+    ) -> u32;
+    fn mubanlig_tile_rectangles(
+        info: *const u8,
+        info_len: usize,
+        col_start_sb: *const u16,
+        col_start_sb_len: usize,
+        row_start_sb: *const u16,
+        row_start_sb_len: usize,
+        sb128: u8,
+        out: *mut u32,
+        out_len: usize,
+    ) -> u32;
 }
 
-/// The numbers of a `TileInfo`.
-pub(crate) const TILE_NUMBERS: usize = 139;
-/// The numbers of a `SequenceHeader`.
-pub(crate) const HEADER_NUMBERS: usize = 285;
-
-/// What a frame's layout needs of the sequence header.
-pub(crate) struct RawSequence<'a> {
-    pub(crate) sb128: u8,
-    pub(crate) max_width: i32,
-    pub(crate) max_height: i32,
-    pub(crate) level: u8,
-    pub(crate) tier: u8,
-    pub(crate) present: u8,
-    pub(crate) tiling: &'a [u16; TILE_NUMBERS],
-}
-
-/// Declares readings and a safe wrapper for each: the bytes, the place, then the arguments.
+/// A safe wrapper for each reading: the bytes, the position, the error, then the arguments.
 macro_rules! readings {
     ($($name:ident = $symbol:ident($($arg:ident: $type:ty),*) -> $answer:ty;)*) => {
-        unsafe extern "C" {
-            $(fn $symbol(
-                s: *const u8,
-                len: usize,
-                byte: *mut usize,
-                used: *mut u32,
-                error: *mut u32
-                $(, $arg: $type)*
-            ) -> $answer;)*
-        }
         $(
             #[inline]
-            pub(crate) fn $name(s: &[u8], p: &mut RawPlace $(, $arg: $type)*) -> $answer {
-                // SAFETY: `s` and the fields of `p` are lent for the call, and don't overlap.
-                unsafe {
-                    $symbol(s.as_ptr(), s.len(), &mut p.byte, &mut p.used, &mut p.error $(, $arg)*)
-                }
+            pub(crate) fn $name(
+                s: &[u8],
+                position: &mut usize,
+                error: &mut u8
+                $(, $arg: $type)*
+            ) -> $answer {
+                // SAFETY: all is lent by references.
+                unsafe { $symbol(s.as_ptr(), s.len(), position, error $(, $arg)*) }
             }
         )*
     };
@@ -64,123 +215,72 @@ readings! {
     get_golomb = mubanlig_get_golomb(k: u32) -> u32;
     get_bits_subexp_u = mubanlig_get_bits_subexp_u(ref_val: u32, n: u32, k: i32) -> u32;
     get_bits_subexp = mubanlig_get_bits_subexp(ref_val: i32, n: u32) -> i32;
-    bytealign = mubanlig_bytealign() -> ();
-}
-
-unsafe extern "C" {
-    fn mubanlig_byte_pos(s: *const u8, len: usize, byte: usize, used: u32) -> usize;
-    fn mubanlig_remaining_bytes(s: *const u8, len: usize, byte: usize, used: u32) -> usize;
-    fn mubanlig_parse_seg_info(
-        s: *const u8,
-        len: usize,
-        byte: *mut usize,
-        used: *mut u32,
-        error: *mut u32,
-        delta_q: *mut i16,
-        delta_q_len: usize,
-        masks: *mut u16,
-        masks_len: usize,
-        ext: u32,
-    ) -> u32;
-    fn mubanlig_parse_tile_info(
-        s: *const u8,
-        len: usize,
-        byte: *mut usize,
-        used: *mut u32,
-        error: *mut u32,
-        info: *mut u16,
-        info_len: usize,
-        sbmul: i32,
-        sb128: u8,
-        seq_sb128: u8,
-        w: i32,
-        h: i32,
-        level: u8,
-        tier: u8,
-    ) -> u32;
-    fn mubanlig_parse_seq_hdr(
-        s: *const u8,
-        len: usize,
-        byte: *mut usize,
-        used: *mut u32,
-        error: *mut u32,
-        strict: u32,
-        hdr: *mut i64,
-        hdr_len: usize,
-    ) -> u32;
-    fn mubanlig_parse_tile_info_frmhdr(
-        s: *const u8,
-        len: usize,
-        byte: *mut usize,
-        used: *mut u32,
-        error: *mut u32,
-        frame_type: u8,
-        width: i32,
-        height: i32,
-        sb128: *mut u8,
-        tiling: *mut u16,
-        tiling_len: usize,
-        seq_sb128: u8,
-        max_width: i32,
-        max_height: i32,
-        level: u8,
-        tier: u8,
-        present: u8,
-        seq_tiling: *const u16,
-        seq_tiling_len: usize,
-    ) -> u32;
-    fn mubanlig_tile_rectangles(
-        t: *const u16,
-        t_len: usize,
-        sb128: u8,
-        out: *mut u32,
-        out_len: usize,
-    ) -> u32;
 }
 
 #[inline]
-pub(crate) fn byte_pos(s: &[u8], p: RawPlace) -> usize {
-    // SAFETY: `s` is lent for the call.
-    unsafe { mubanlig_byte_pos(s.as_ptr(), s.len(), p.byte, p.used) }
+pub(crate) fn bytealign(s: &[u8], position: &mut usize) {
+    // SAFETY: all is lent by references.
+    unsafe { mubanlig_bytealign(s.as_ptr(), s.len(), position) }
 }
 
 #[inline]
-pub(crate) fn remaining_bytes(s: &[u8], p: RawPlace) -> usize {
-    // SAFETY: `s` is lent for the call.
-    unsafe { mubanlig_remaining_bytes(s.as_ptr(), s.len(), p.byte, p.used) }
+pub(crate) fn byte_pos(s: &[u8], position: usize) -> usize {
+    // SAFETY: `s` is lent by a reference.
+    unsafe { mubanlig_byte_pos(s.as_ptr(), s.len(), position) }
+}
+
+#[inline]
+pub(crate) fn remaining_bytes(s: &[u8], position: usize) -> usize {
+    // SAFETY: `s` is lent by a reference.
+    unsafe { mubanlig_remaining_bytes(s.as_ptr(), s.len(), position) }
 }
 
 #[inline]
 pub(crate) fn parse_seg_info(
     s: &[u8],
-    p: &mut RawPlace,
+    position: &mut usize,
+    error: &mut u8,
     delta_q: &mut [i16; MAX_SEGMENTS],
     masks: &mut [u16; 3],
     ext: bool,
 ) -> u32 {
-    // SAFETY: `s`, `delta_q`, `masks` and the fields of `p` are lent for the call, and don't overlap.
+    // SAFETY: all is lent by references.
     unsafe {
         mubanlig_parse_seg_info(
             s.as_ptr(),
             s.len(),
-            &mut p.byte,
-            &mut p.used,
-            &mut p.error,
+            position,
+            error,
             delta_q.as_mut_ptr(),
             delta_q.len(),
             masks.as_mut_ptr(),
             masks.len(),
-            u32::from(ext),
+            u8::from(ext),
         )
     }
+}
+
+/// Where the parts of a layout stand: its nine bytes, its column starts, its row starts.
+#[inline]
+fn parts(t: &TileInfo) -> (*const u8, *const u16, *const u16) {
+    let (cols, rows) = (t.col_start_sb.as_ptr(), t.row_start_sb.as_ptr());
+    (ptr::from_ref(t).cast(), cols, rows)
+}
+
+/// The same for writing. The starts stand in memory of their own, so no part overlaps another.
+#[inline]
+fn parts_mut(t: &mut TileInfo) -> (*mut u8, *mut u16, *mut u16) {
+    let (cols, rows) = (t.col_start_sb.as_mut_ptr(), t.row_start_sb.as_mut_ptr());
+    (ptr::from_mut(t).cast(), cols, rows)
 }
 
 #[inline]
 #[allow(clippy::too_many_arguments)]
 pub(crate) fn parse_tile_info(
     s: &[u8],
-    p: &mut RawPlace,
-    info: &mut [u16; TILE_NUMBERS],
+    position: &mut usize,
+    error: &mut u8,
+    t: &mut TileInfo,
     sbmul: i32,
     sb128: u8,
     seq_sb128: u8,
@@ -189,16 +289,20 @@ pub(crate) fn parse_tile_info(
     level: u8,
     tier: u8,
 ) -> u32 {
-    // SAFETY: `s`, `info` and the fields of `p` are lent for the call, and don't overlap.
+    let (info, cols, rows) = parts_mut(t);
+    // SAFETY: all is lent by references, the parts of `t` by the one to it.
     unsafe {
         mubanlig_parse_tile_info(
             s.as_ptr(),
             s.len(),
-            &mut p.byte,
-            &mut p.used,
-            &mut p.error,
-            info.as_mut_ptr(),
-            info.len(),
+            position,
+            error,
+            info,
+            INFO_BYTES,
+            cols,
+            MAX_TILE_COLS + 1,
+            rows,
+            MAX_TILE_ROWS + 1,
             sbmul,
             sb128,
             seq_sb128,
@@ -213,67 +317,101 @@ pub(crate) fn parse_tile_info(
 #[inline]
 pub(crate) fn parse_seq_hdr(
     s: &[u8],
-    p: &mut RawPlace,
+    position: &mut usize,
+    error: &mut u8,
     strict: bool,
-    hdr: &mut [i64; HEADER_NUMBERS],
-) -> u32 {
-    // SAFETY: `s`, `hdr` and the fields of `p` are lent for the call, and don't overlap.
-    unsafe {
+) -> Result<SequenceHeader, Error> {
+    let mut numbers = MaybeUninit::<[i64; HEADER_NUMBERS]>::uninit();
+    let mut t = TileInfo::default();
+    let (info, cols, rows) = parts_mut(&mut t);
+    // SAFETY: all is lent by references, the parts of `t` by the one to it; the library reads none of the numbers.
+    answer(unsafe {
         mubanlig_parse_seq_hdr(
             s.as_ptr(),
             s.len(),
-            &mut p.byte,
-            &mut p.used,
-            &mut p.error,
-            u32::from(strict),
-            hdr.as_mut_ptr(),
-            hdr.len(),
+            position,
+            error,
+            u8::from(strict),
+            numbers.as_mut_ptr().cast(),
+            HEADER_NUMBERS,
+            info,
+            INFO_BYTES,
+            cols,
+            MAX_TILE_COLS + 1,
+            rows,
+            MAX_TILE_ROWS + 1,
         )
-    }
+    })?;
+    // SAFETY: an accepted header writes every number.
+    let numbers = unsafe { numbers.assume_init_ref() };
+    Ok(flat::sequence_header(numbers, t))
 }
 
 #[inline]
 #[allow(clippy::too_many_arguments)]
 pub(crate) fn parse_tile_info_frmhdr(
     s: &[u8],
-    p: &mut RawPlace,
-    frame_type: u8,
+    position: &mut usize,
+    error: &mut u8,
+    frame_type: FrameType,
     width: i32,
     height: i32,
     sb128: &mut u8,
-    tiling: &mut [u16; TILE_NUMBERS],
-    seq: &RawSequence,
+    tiling: &mut TileInfo,
+    seqhdr: &SequenceHeader,
 ) -> u32 {
-    // SAFETY: `s`, `sb128`, both layouts and the fields of `p` are lent for the call, and don't overlap.
+    let (info, cols, rows) = parts_mut(tiling);
+    let (seq_info, seq_cols, seq_rows) = parts(&seqhdr.tiling.t);
+    // SAFETY: all is lent by references, the parts of both layouts by those to them.
     unsafe {
         mubanlig_parse_tile_info_frmhdr(
             s.as_ptr(),
             s.len(),
-            &mut p.byte,
-            &mut p.used,
-            &mut p.error,
-            frame_type,
+            position,
+            error,
+            frame_type as u8,
             width,
             height,
             sb128,
-            tiling.as_mut_ptr(),
-            tiling.len(),
-            seq.sb128,
-            seq.max_width,
-            seq.max_height,
-            seq.level,
-            seq.tier,
-            seq.present,
-            seq.tiling.as_ptr(),
-            seq.tiling.len(),
+            info,
+            INFO_BYTES,
+            cols,
+            MAX_TILE_COLS + 1,
+            rows,
+            MAX_TILE_ROWS + 1,
+            seqhdr.sb128,
+            seqhdr.max_width,
+            seqhdr.max_height,
+            seqhdr.level,
+            seqhdr.tier,
+            seqhdr.tiling.present as u8,
+            seq_info,
+            INFO_BYTES,
+            seq_cols,
+            MAX_TILE_COLS + 1,
+            seq_rows,
+            MAX_TILE_ROWS + 1,
         )
     }
 }
 
 #[inline]
-pub(crate) fn tile_rectangles(t: &[u16; TILE_NUMBERS], sb128: u8, out: &mut [u32]) -> u32 {
-    // SAFETY: `t` and `out` are lent for the call, and don't overlap.
-    unsafe { mubanlig_tile_rectangles(t.as_ptr(), t.len(), sb128, out.as_mut_ptr(), out.len()) }
+pub(crate) fn tile_rectangles(t: &TileInfo, sb128: u8, out: &mut [u32]) -> u32 {
+    let (info, cols, rows) = parts(t);
+    // SAFETY: all is lent by references, the parts of `t` by the one to it.
+    unsafe {
+        mubanlig_tile_rectangles(
+            info,
+            INFO_BYTES,
+            cols,
+            MAX_TILE_COLS + 1,
+            rows,
+            MAX_TILE_ROWS + 1,
+            sb128,
+            out.as_mut_ptr(),
+            out.len(),
+        )
+    }
 }
 
 #[cfg(test)]

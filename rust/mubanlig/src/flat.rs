@@ -1,46 +1,14 @@
-//! Records as rows of numbers, the form in which they cross to the library: depth first through the library's
-//! nested records, in the order of their declaration.
+//! A sequence header from the row of numbers in which it crosses: depth first through the library's nested records, in
+//! the order of their declaration. Its layout crosses by itself.
 
-use crate::ffi::{HEADER_NUMBERS, TILE_NUMBERS};
+// Each number is one of its field's type, by the library's contract.
+#![allow(clippy::cast_possible_truncation, clippy::cast_sign_loss)]
+
+use crate::ffi::HEADER_NUMBERS;
 use crate::headers::{
-    AdaptiveBoolean, CropInfo, MAX_TILE_COLS, MAX_TILE_ROWS, PixelLayout, SegmentationDataSet,
-    SeqSegmentation, SeqTiling, SequenceHeader, TileInfo,
+    AdaptiveBoolean, CropInfo, PixelLayout, SegmentationDataSet, SeqSegmentation, SeqTiling,
+    SequenceHeader, TileInfo,
 };
-
-const COLS: usize = 9;
-const ROWS: usize = COLS + MAX_TILE_COLS + 1;
-
-#[inline]
-pub(crate) fn tile_numbers(t: &TileInfo) -> [u16; TILE_NUMBERS] {
-    let mut row = [0; TILE_NUMBERS];
-    row[0] = u16::from(t.uniform);
-    row[1] = u16::from(t.min_log2_cols);
-    row[2] = u16::from(t.max_log2_cols);
-    row[3] = u16::from(t.log2_cols);
-    row[4] = u16::from(t.cols);
-    row[5] = u16::from(t.min_log2_rows);
-    row[6] = u16::from(t.max_log2_rows);
-    row[7] = u16::from(t.log2_rows);
-    row[8] = u16::from(t.rows);
-    row[COLS..ROWS].copy_from_slice(&t.col_start_sb[..]);
-    row[ROWS..].copy_from_slice(&t.row_start_sb[..]);
-    row
-}
-
-#[inline]
-pub(crate) fn set_tile_info(t: &mut TileInfo, row: &[u16; TILE_NUMBERS]) {
-    t.uniform = row[0] != 0;
-    t.min_log2_cols = row[1] as u8;
-    t.max_log2_cols = row[2] as u8;
-    t.log2_cols = row[3] as u8;
-    t.cols = row[4] as u8;
-    t.min_log2_rows = row[5] as u8;
-    t.max_log2_rows = row[6] as u8;
-    t.log2_rows = row[7] as u8;
-    t.rows = row[8] as u8;
-    t.col_start_sb.copy_from_slice(&row[COLS..ROWS]);
-    t.row_start_sb.copy_from_slice(&row[ROWS..]);
-}
 
 /// Takes the numbers of a header one after the other.
 struct Row<'a> {
@@ -91,13 +59,6 @@ impl Row<'_> {
     }
 
     #[inline(always)]
-    fn starts<const N: usize>(&mut self) -> Box<[u16; N]> {
-        let starts = &self.numbers[self.next..self.next + N];
-        self.next += N;
-        Box::new(std::array::from_fn(|i| starts[i] as u16))
-    }
-
-    #[inline(always)]
     fn crop(&mut self) -> CropInfo {
         CropInfo {
             enabled: self.flag(),
@@ -122,30 +83,11 @@ impl Row<'_> {
             },
         }
     }
-
-    #[inline(always)]
-    fn tiling(&mut self) -> SeqTiling {
-        SeqTiling {
-            present: self.adaptive(),
-            t: TileInfo {
-                uniform: self.flag(),
-                min_log2_cols: self.u8(),
-                max_log2_cols: self.u8(),
-                log2_cols: self.u8(),
-                cols: self.u8(),
-                min_log2_rows: self.u8(),
-                max_log2_rows: self.u8(),
-                log2_rows: self.u8(),
-                rows: self.u8(),
-                col_start_sb: self.starts::<{ MAX_TILE_COLS + 1 }>(),
-                row_start_sb: self.starts::<{ MAX_TILE_ROWS + 1 }>(),
-            },
-        }
-    }
 }
 
 /// The header of a row of numbers. The fields stand in the order of the row, not in that of their declaration.
-pub(crate) fn sequence_header(numbers: &[i64; HEADER_NUMBERS]) -> SequenceHeader {
+#[inline(always)]
+pub(crate) fn sequence_header(numbers: &[i64; HEADER_NUMBERS], t: TileInfo) -> SequenceHeader {
     let mut row = Row { numbers, next: 0 };
     SequenceHeader {
         id: row.u8(),
@@ -251,7 +193,10 @@ pub(crate) fn sequence_header(numbers: &[i64; HEADER_NUMBERS]) -> SequenceHeader
         ccso_unit_matches_sbsz: row.flag(),
         cdef_on_skiptx: row.adaptive(),
         df_par_bits: row.u8(),
-        tiling: row.tiling(),
+        tiling: SeqTiling {
+            present: row.adaptive(),
+            t,
+        },
         film_grain_present: row.flag(),
     }
 }

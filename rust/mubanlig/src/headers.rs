@@ -66,8 +66,11 @@ pub struct SegmentationDataSet {
 /// How a picture is cut into tiles.
 ///
 /// Only the first `cols` + 1 column starts and `rows` + 1 row starts count. A short list written over a long one leaves
-/// old numbers behind it.
+/// old numbers behind it: [`col_starts`](Self::col_starts) and [`row_starts`](Self::row_starts) leave them out.
+///
+/// The library reads and writes a record where it stands, so its first nine bytes are the nine fields in this order.
 #[derive(Debug, Clone, PartialEq)]
+#[repr(C)]
 pub struct TileInfo {
     /// Whether the tiles have even sizes.
     pub uniform: bool,
@@ -108,6 +111,39 @@ impl Default for TileInfo {
             col_start_sb: Box::new([0; MAX_TILE_COLS + 1]),
             row_start_sb: Box::new([0; MAX_TILE_ROWS + 1]),
         }
+    }
+}
+
+impl TileInfo {
+    /// Where each column starts, in superblocks, and behind them the width: `cols` + 1 numbers. Of a record with more
+    /// than 64 columns, which no reading gives, all 65.
+    ///
+    /// ```
+    /// # use mubanlig::{GetBits, TileInfo, parse_tile_info};
+    /// let mut layout = TileInfo::default();
+    /// parse_tile_info(&mut layout, &mut GetBits::new(&[0x28]), 1, 0, 0, 256, 128, 0, 0)?;
+    /// assert_eq!(layout.col_starts(), [0, 2, 3, 4]);
+    /// assert_eq!(layout.row_starts(), [0, 2]);
+    /// for column in layout.col_starts().windows(2) {
+    ///     assert!(column[0] < column[1]);
+    /// }
+    /// # Ok::<(), mubanlig::Error>(())
+    /// ```
+    #[must_use]
+    pub fn col_starts(&self) -> &[u16] {
+        &self.col_start_sb[..=usize::from(self.cols).min(MAX_TILE_COLS)]
+    }
+
+    /// Where each row starts, in superblocks, and behind them the height: `rows` + 1 numbers, at most 65.
+    #[must_use]
+    pub fn row_starts(&self) -> &[u16] {
+        &self.row_start_sb[..=usize::from(self.rows).min(MAX_TILE_ROWS)]
+    }
+
+    /// How many tiles there are: a buffer for [`tile_rectangles`](crate::tile_rectangles) has four numbers for each.
+    #[must_use]
+    pub fn tiles(&self) -> usize {
+        usize::from(self.cols) * usize::from(self.rows)
     }
 }
 
@@ -403,11 +439,13 @@ pub struct FrameHeader {
 
 impl FrameHeader {
     /// An inter or switch frame.
+    #[must_use]
     pub fn is_inter_or_switch(&self) -> bool {
         matches!(self.frame_type, FrameType::Inter | FrameType::Switch)
     }
 
     /// A key or intra frame.
+    #[must_use]
     pub fn is_key_or_intra(&self) -> bool {
         !self.is_inter_or_switch()
     }

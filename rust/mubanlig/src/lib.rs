@@ -43,12 +43,15 @@ mod headers;
 mod obu;
 mod rectangles;
 
-pub use error::{Error, Result};
+pub use error::Error;
 pub use getbits::{GetBits, Place};
 pub use headers::{
     AdaptiveBoolean, CropInfo, FhTiling, FrameHeader, FrameType, MAX_SEGMENTS, MAX_TILE_COLS,
     MAX_TILE_ROWS, PixelLayout, SegmentationDataSet, SeqSegmentation, SeqTiling, SequenceHeader,
     TileInfo,
 };
-pub use obu::{parse_seg_info, parse_seq_hdr, parse_tile_info, parse_tile_info_frmhdr};
+pub use obu::{
+    parse_seg_info, parse_seq_hdr, parse_tile_info, parse_tile_info_frmhdr,
+    parse_tile_info_frmhdr_parts,
+};
 pub use rectangles::tile_rectangles;

@@ -1,10 +1,9 @@
 //! The functions that read a record.
 
-use crate::error::{Result, answer};
-use crate::ffi::{self, HEADER_NUMBERS, RawSequence};
-use crate::flat;
+use crate::error::{Error, answer};
+use crate::ffi;
 use crate::getbits::GetBits;
-use crate::headers::{FrameHeader, SegmentationDataSet, SequenceHeader, TileInfo};
+use crate::headers::{FrameHeader, FrameType, SegmentationDataSet, SequenceHeader, TileInfo};
 
 /// Reads the features of 8 segments, or of 16 with the extension. The masks are ORed onto those of `seg`.
 ///
@@ -19,18 +18,23 @@ use crate::headers::{FrameHeader, SegmentationDataSet, SequenceHeader, TileInfo}
 /// ```
 pub fn parse_seg_info(seg: &mut SegmentationDataSet, gb: &mut GetBits, ext: bool) {
     let mut masks = [seg.delta_q_mask, seg.skip_mask, seg.globalmv_mask];
-    let (data, place) = gb.parts();
+    let (data, position, error) = gb.parts();
     // Both buffers have their full length, so the answer is always 0.
-    ffi::parse_seg_info(data, place, &mut seg.delta_q, &mut masks, ext);
+    ffi::parse_seg_info(data, position, error, &mut seg.delta_q, &mut masks, ext);
     [seg.delta_q_mask, seg.skip_mask, seg.globalmv_mask] = masks;
 }
 
 /// Reads a tile layout into `thdr`. A refusal leaves it as it was.
 ///
 /// `sbmul` is 2 for the frame's code 1 with the sequence's code 2, else 1 and both codes are equal. Width and height are
-/// 1 to 65,536, the level at most 31, the tier at most 1. Anything else is [`WrongArguments`](crate::Error::WrongArguments).
+/// 1 to 65,536, the level at most 31, the tier at most 1.
 ///
 /// The reader's error isn't looked at: short data may be accepted with the error set.
+///
+/// # Errors
+///
+/// [`WrongArguments`](Error::WrongArguments) for other arguments, and no bit is used;
+/// [`InvalidTileInfo`](Error::InvalidTileInfo) if 64 columns, or then 64 rows, leave superblocks over.
 ///
 /// ```
 /// use mubanlig::{GetBits, TileInfo, parse_tile_info};
@@ -40,13 +44,13 @@ pub fn parse_seg_info(seg: &mut SegmentationDataSet, gb: &mut GetBits, ext: bool
 /// let mut layout = TileInfo::default();
 /// parse_tile_info(&mut layout, &mut gb, 1, 0, 0, 330, 64, 0, 0)?;
 /// assert!(layout.uniform);
-/// assert_eq!(layout.col_start_sb[..=4], [0, 2, 3, 4, 6]);
+/// assert_eq!(layout.col_starts(), [0, 2, 3, 4, 6]);
 ///
 /// // One of 256 by 128 that tells each size.
 /// let mut gb = GetBits::new(&[0x28]);
 /// parse_tile_info(&mut layout, &mut gb, 1, 0, 0, 256, 128, 0, 0)?;
 /// assert_eq!((layout.cols, layout.rows), (3, 1));
-/// assert_eq!(layout.col_start_sb[..=3], [0, 2, 3, 4]);
+/// assert_eq!(layout.col_starts(), [0, 2, 3, 4]);
 /// assert_eq!(layout.col_start_sb[4], 6); // an old number behind the last start
 ///
 /// // 65 superblocks without data: 64 columns of one don't suffice.
@@ -66,17 +70,20 @@ pub fn parse_tile_info(
     h: i32,
     level: u8,
     tier: u8,
-) -> Result<()> {
-    let mut row = flat::tile_numbers(thdr);
-    let (data, place) = gb.parts();
+) -> Result<(), Error> {
+    let (data, position, error) = gb.parts();
     answer(ffi::parse_tile_info(
-        data, place, &mut row, sbmul, sb128, seq_sb128, w, h, level, tier,
-    ))?;
-    flat::set_tile_info(thdr, &row);
-    Ok(())
+        data, position, error, thdr, sbmul, sb128, seq_sb128, w, h, level, tier,
+    ))
 }
 
 /// Reads a sequence header. If `strict`, a trailing one bit has to stand behind the extension bit.
+///
+/// # Errors
+///
+/// [`InvalidSequenceHeader`](Error::InvalidSequenceHeader) for a profile, layout, bit depth or number of reference frames
+/// that there is not, or data that ran out; [`InvalidTileInfo`](Error::InvalidTileInfo) for a tile layout that does not
+/// cover the picture; [`InvalidTrailingBits`](Error::InvalidTrailingBits) only if `strict`.
 ///
 /// ```
 /// use mubanlig::{Error, GetBits, parse_seq_hdr};
@@ -94,16 +101,20 @@ pub fn parse_tile_info(
 /// let refusal = parse_seq_hdr(&mut GetBits::new(&data[..7]), false);
 /// assert_eq!(refusal, Err(Error::InvalidSequenceHeader));
 /// ```
-pub fn parse_seq_hdr(gb: &mut GetBits, strict: bool) -> Result<SequenceHeader> {
-    let mut row = [0; HEADER_NUMBERS];
-    let (data, place) = gb.parts();
-    answer(ffi::parse_seq_hdr(data, place, strict, &mut row))?;
-    Ok(flat::sequence_header(&row))
+pub fn parse_seq_hdr(gb: &mut GetBits, strict: bool) -> Result<SequenceHeader, Error> {
+    let (data, position, error) = gb.parts();
+    ffi::parse_seq_hdr(data, position, error, strict)
 }
 
 /// Sets a frame's superblock code and its layout, which is the sequence's or is read. A refusal leaves `hdr` as it was.
 ///
 /// The reader's error isn't looked at: short data may be accepted with the error set.
+///
+/// # Errors
+///
+/// [`WrongArguments`](Error::WrongArguments) if the frame's size is outside the domain or the sequence header can't be
+/// used for a frame, and no bit is used; [`InvalidTileInfo`](Error::InvalidTileInfo) if 64 columns, or then 64 rows,
+/// leave superblocks over.
 ///
 /// ```
 /// use mubanlig::{
@@ -115,7 +126,7 @@ pub fn parse_seq_hdr(gb: &mut GetBits, strict: bool) -> Result<SequenceHeader> {
 /// seqhdr.tiling.present = AdaptiveBoolean::On;
 /// let t = &mut seqhdr.tiling.t;
 /// parse_tile_info(t, &mut GetBits::new(&[0xC0]), 1, 0, 0, 256, 64, 0, 0)?;
-/// assert_eq!(t.col_start_sb[..=2], [0, 2, 4]);
+/// assert_eq!(t.col_starts(), [0, 2, 4]);
 ///
 /// let mut hdr = FrameHeader {
 ///     frame_type: FrameType::Inter,
@@ -125,37 +136,56 @@ pub fn parse_seq_hdr(gb: &mut GetBits, strict: bool) -> Result<SequenceHeader> {
 /// };
 /// parse_tile_info_frmhdr(&mut hdr, &seqhdr, &mut GetBits::new(&[]))?;
 /// // Reused whole, though the frame has three superblocks.
-/// assert_eq!(hdr.tiling.t.col_start_sb[..=2], [0, 2, 4]);
+/// assert_eq!(hdr.tiling.t.col_starts(), [0, 2, 4]);
 /// # Ok::<(), mubanlig::Error>(())
 /// ```
 pub fn parse_tile_info_frmhdr(
     hdr: &mut FrameHeader,
     seqhdr: &SequenceHeader,
     gb: &mut GetBits,
-) -> Result<()> {
-    let mut sb128 = hdr.sb128;
-    let mut row = flat::tile_numbers(&hdr.tiling.t);
-    let seq = RawSequence {
-        sb128: seqhdr.sb128,
-        max_width: seqhdr.max_width,
-        max_height: seqhdr.max_height,
-        level: seqhdr.level,
-        tier: seqhdr.tier,
-        present: seqhdr.tiling.present as u8,
-        tiling: &flat::tile_numbers(&seqhdr.tiling.t),
-    };
-    let (data, place) = gb.parts();
-    answer(ffi::parse_tile_info_frmhdr(
-        data,
-        place,
-        hdr.frame_type as u8,
+) -> Result<(), Error> {
+    parse_tile_info_frmhdr_parts(
+        hdr.frame_type,
         hdr.width,
         hdr.height,
-        &mut sb128,
-        &mut row,
-        &seq,
-    ))?;
-    hdr.sb128 = sb128;
-    flat::set_tile_info(&mut hdr.tiling.t, &row);
-    Ok(())
+        &mut hdr.sb128,
+        &mut hdr.tiling.t,
+        seqhdr,
+        gb,
+    )
+}
+
+/// As [`parse_tile_info_frmhdr`], for a viewer that keeps a frame header of its own: over the parts that a layout needs.
+/// A refusal leaves `sb128` and `tiling` as they were.
+///
+/// # Errors
+///
+/// As those of [`parse_tile_info_frmhdr`].
+///
+/// ```
+/// use mubanlig::{FrameType, GetBits, SequenceHeader, TileInfo, parse_tile_info_frmhdr_parts};
+///
+/// let seqhdr = SequenceHeader { max_width: 256, max_height: 128, ..Default::default() };
+/// let mut sb128 = 0;
+/// let mut tiling = TileInfo::default();
+/// let mut gb = GetBits::new(&[0x28]);
+/// parse_tile_info_frmhdr_parts(
+///     FrameType::Key, 256, 128, &mut sb128, &mut tiling, &seqhdr, &mut gb,
+/// )?;
+/// assert_eq!(tiling.col_starts(), [0, 2, 3, 4]);
+/// # Ok::<(), mubanlig::Error>(())
+/// ```
+pub fn parse_tile_info_frmhdr_parts(
+    frame_type: FrameType,
+    width: i32,
+    height: i32,
+    sb128: &mut u8,
+    tiling: &mut TileInfo,
+    seqhdr: &SequenceHeader,
+    gb: &mut GetBits,
+) -> Result<(), Error> {
+    let (data, position, error) = gb.parts();
+    answer(ffi::parse_tile_info_frmhdr(
+        data, position, error, frame_type, width, height, sb128, tiling, seqhdr,
+    ))
 }

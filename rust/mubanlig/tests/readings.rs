@@ -6,7 +6,7 @@ use mubanlig::{
 };
 
 /// A layout read over a fresh record at level 0, tier 0; and whether the reader's error is set.
-fn layout(pair: [u8; 2], w: i32, h: i32, data: &[u8]) -> (mubanlig::Result<TileInfo>, bool) {
+fn layout(pair: [u8; 2], w: i32, h: i32, data: &[u8]) -> (Result<TileInfo, Error>, bool) {
     let sbmul = if pair == [1, 2] { 2 } else { 1 };
     let mut t = TileInfo::default();
     let mut gb = GetBits::new(data);

@@ -1,180 +1,230 @@
-//! What the C interface answers to calls that the safe crate can't make.
+//! Calls that the safe crate can't make: buffers that are too short, and numbers that are no enum's.
 
 use super::*;
 
 const DATA: [u8; 2] = [0xFF, 0xFF];
-/// Past the end, so that a place handed back as the end would show.
-const PLACE: (usize, u32, u32) = (5, 1, 7);
+/// Past the end and with an error, so that anything stored would show.
+const PLACE: (usize, u8) = (41, 7);
 
-/// Calls a function with the data and a place of its own; the answer, and the place after.
-fn call(
-    f: impl FnOnce(*const u8, usize, *mut usize, *mut u32, *mut u32) -> u32,
-) -> (u32, (usize, u32, u32)) {
-    let (mut byte, mut used, mut error) = PLACE;
-    let answer = f(DATA.as_ptr(), DATA.len(), &mut byte, &mut used, &mut error);
-    (answer, (byte, used, error))
+/// What a call lends: buffers that are longer than told.
+#[derive(Debug, Clone, PartialEq)]
+struct Lent {
+    place: (usize, u8),
+    sb128: u8,
+    delta_q: [i16; 16],
+    masks: [u16; 3],
+    hdr: [i64; HEADER_NUMBERS],
+    info: [u8; INFO_BYTES],
+    cols: [u16; 65],
+    rows: [u16; 65],
+}
+
+const LENT: Lent = Lent {
+    place: PLACE,
+    sb128: 8,
+    delta_q: [3; 16],
+    masks: [4; 3],
+    hdr: [5; HEADER_NUMBERS],
+    info: [6; INFO_BYTES],
+    cols: [1023; 65],
+    rows: [1024; 65],
+};
+
+/// The lengths told of the nine bytes and both lists of starts.
+type Lengths = [usize; 3];
+const LONG: Lengths = [INFO_BYTES, 65, 65];
+const SHORT: [Lengths; 4] = [[8, 65, 65], [9, 64, 65], [9, 65, 64], [0, 0, 0]];
+
+fn seg_info(delta_qs: usize, mask_count: usize) -> (u32, Lent) {
+    let mut lent = LENT;
+    // SAFETY: the buffers are at least as long as told.
+    let answer = unsafe {
+        mubanlig_parse_seg_info(
+            DATA.as_ptr(),
+            DATA.len(),
+            &mut lent.place.0,
+            &mut lent.place.1,
+            lent.delta_q.as_mut_ptr(),
+            delta_qs,
+            lent.masks.as_mut_ptr(),
+            mask_count,
+            0,
+        )
+    };
+    (answer, lent)
+}
+
+fn layout(lengths: Lengths, w: i32) -> (u32, Lent) {
+    let mut lent = LENT;
+    // SAFETY: the buffers are at least as long as told.
+    let answer = unsafe {
+        mubanlig_parse_tile_info(
+            DATA.as_ptr(),
+            DATA.len(),
+            &mut lent.place.0,
+            &mut lent.place.1,
+            lent.info.as_mut_ptr(),
+            lengths[0],
+            lent.cols.as_mut_ptr(),
+            lengths[1],
+            lent.rows.as_mut_ptr(),
+            lengths[2],
+            1,
+            0,
+            0,
+            w,
+            64,
+            0,
+            0,
+        )
+    };
+    (answer, lent)
+}
+
+fn header(numbers: usize, lengths: Lengths) -> (u32, Lent) {
+    let mut lent = LENT;
+    // SAFETY: the buffers are at least as long as told.
+    let answer = unsafe {
+        mubanlig_parse_seq_hdr(
+            DATA.as_ptr(),
+            DATA.len(),
+            &mut lent.place.0,
+            &mut lent.place.1,
+            0,
+            lent.hdr.as_mut_ptr(),
+            numbers,
+            lent.info.as_mut_ptr(),
+            lengths[0],
+            lent.cols.as_mut_ptr(),
+            lengths[1],
+            lent.rows.as_mut_ptr(),
+            lengths[2],
+        )
+    };
+    (answer, lent)
+}
+
+/// A frame of 64 by 64 samples in a sequence whose layout has 6 columns and rows, from 0 on.
+fn frame(frame_type: u8, present: u8, lengths: Lengths, seq_lengths: Lengths) -> (u32, Lent) {
+    let mut lent = LENT;
+    let (info, starts) = ([6; INFO_BYTES], [0; 65]);
+    // SAFETY: the buffers are at least as long as told.
+    let answer = unsafe {
+        mubanlig_parse_tile_info_frmhdr(
+            DATA.as_ptr(),
+            DATA.len(),
+            &mut lent.place.0,
+            &mut lent.place.1,
+            frame_type,
+            64,
+            64,
+            &mut lent.sb128,
+            lent.info.as_mut_ptr(),
+            lengths[0],
+            lent.cols.as_mut_ptr(),
+            lengths[1],
+            lent.rows.as_mut_ptr(),
+            lengths[2],
+            0,
+            64,
+            64,
+            0,
+            0,
+            present,
+            info.as_ptr(),
+            seq_lengths[0],
+            starts.as_ptr(),
+            seq_lengths[1],
+            starts.as_ptr(),
+            seq_lengths[2],
+        )
+    };
+    (answer, lent)
 }
 
 #[test]
-fn short_segment_buffers() {
+fn the_libraries_are_those_of_this_interface() {
+    // SAFETY: nothing is lent.
+    let numbers = unsafe { [mubanlig_bits_interface_2(), mubanlig_interface_2()] };
+    assert_eq!(numbers, [2, 2]);
+}
+
+#[test]
+fn a_short_buffer_is_5_and_changes_nothing() {
+    let refused = (5, LENT);
     for (delta_qs, mask_count) in [(15, 3), (16, 2), (0, 0)] {
-        let mut delta_q = [3; 16];
-        let mut masks = [4; 3];
-        let outcome = call(|s, len, byte, used, error| {
-            // SAFETY: the buffers are at least as long as told.
-            unsafe {
-                mubanlig_parse_seg_info(
-                    s,
-                    len,
-                    byte,
-                    used,
-                    error,
-                    delta_q.as_mut_ptr(),
-                    delta_qs,
-                    masks.as_mut_ptr(),
-                    mask_count,
-                    0,
-                )
-            }
-        });
-        assert_eq!(outcome, (5, PLACE));
-        assert_eq!((delta_q, masks), ([3; 16], [4; 3]));
+        assert_eq!(seg_info(delta_qs, mask_count), refused);
+    }
+    assert_eq!(header(HEADER_NUMBERS - 1, LONG), refused);
+    for lengths in SHORT {
+        assert_eq!(layout(lengths, 64), refused);
+        assert_eq!(header(HEADER_NUMBERS, lengths), refused);
+        assert_eq!(frame(0, 0, lengths, LONG), refused);
+        assert_eq!(frame(0, 0, LONG, lengths), refused);
+    }
+}
+
+/// What was lent, with the place settled at the end: the error's byte stays what it was.
+fn at_the_end() -> Lent {
+    Lent {
+        place: (8 * DATA.len(), PLACE.1),
+        ..LENT
     }
 }
 
 #[test]
-fn short_layout_buffer() {
-    let mut info = [9; TILE_NUMBERS];
-    let outcome = call(|s, len, byte, used, error| {
-        // SAFETY: the buffer is longer than told.
-        unsafe {
-            mubanlig_parse_tile_info(
-                s,
-                len,
-                byte,
-                used,
-                error,
-                info.as_mut_ptr(),
-                TILE_NUMBERS - 1,
-                1,
-                0,
-                0,
-                64,
-                64,
-                0,
-                0,
-            )
-        }
-    });
-    assert_eq!(outcome, (5, PLACE));
-    assert_eq!(info, [9; TILE_NUMBERS]);
+fn wrong_arguments_are_4_and_change_no_buffer() {
+    let refused = (4, at_the_end());
+    assert_eq!(layout(LONG, 0), refused);
+    assert_eq!(frame(4, 0, LONG, LONG), refused);
+    assert_eq!(frame(0, 3, LONG, LONG), refused);
 }
 
 #[test]
-fn short_header_buffer() {
-    let mut hdr = [9; HEADER_NUMBERS];
-    let outcome = call(|s, len, byte, used, error| {
-        // SAFETY: the buffer is longer than told.
-        unsafe {
-            mubanlig_parse_seq_hdr(
-                s,
-                len,
-                byte,
-                used,
-                error,
-                0,
-                hdr.as_mut_ptr(),
-                HEADER_NUMBERS - 1,
-            )
-        }
-    });
-    assert_eq!(outcome, (5, PLACE));
-    assert_eq!(hdr, [9; HEADER_NUMBERS]);
+fn a_refused_layout_is_2_and_changes_no_buffer() {
+    assert_eq!(layout(LONG, 4160), (2, at_the_end()));
 }
 
 #[test]
 fn a_refused_header_has_the_zero_record() {
-    let mut hdr = [9; HEADER_NUMBERS];
-    let answer = parse_seq_hdr(&[], &mut RawPlace::default(), false, &mut hdr);
-    assert_eq!(answer, 1);
-    assert_eq!(hdr, [0; HEADER_NUMBERS]);
-}
-
-/// A frame of 64 by 64 samples; the lengths told of both layouts.
-fn frame(frame_type: u8, present: u8, len: usize, seq_len: usize) -> (u32, (usize, u32, u32)) {
-    let mut tiling = [9; TILE_NUMBERS];
-    let seq_tiling = [1; TILE_NUMBERS];
-    let mut sb128 = 8;
-    let outcome = call(|s, s_len, byte, used, error| {
-        // SAFETY: the buffers are at least as long as told.
-        unsafe {
-            mubanlig_parse_tile_info_frmhdr(
-                s,
-                s_len,
-                byte,
-                used,
-                error,
-                frame_type,
-                64,
-                64,
-                &mut sb128,
-                tiling.as_mut_ptr(),
-                len,
-                0,
-                64,
-                64,
-                0,
-                0,
-                present,
-                seq_tiling.as_ptr(),
-                seq_len,
-            )
-        }
-    });
-    assert_eq!((sb128, tiling), (8, [9; TILE_NUMBERS]));
-    outcome
-}
-
-#[test]
-fn short_frame_buffers() {
-    assert_eq!(frame(0, 0, TILE_NUMBERS - 1, TILE_NUMBERS), (5, PLACE));
-    assert_eq!(frame(0, 0, TILE_NUMBERS, TILE_NUMBERS - 1), (5, PLACE));
-}
-
-#[test]
-fn no_such_frame_type_or_tiling() {
-    let end = (DATA.len(), 0, 1);
-    assert_eq!(frame(4, 0, TILE_NUMBERS, TILE_NUMBERS), (4, end));
-    assert_eq!(frame(0, 3, TILE_NUMBERS, TILE_NUMBERS), (4, end));
-}
-
-#[test]
-fn numbers_are_cut_to_their_field() {
-    let mut info = [0; TILE_NUMBERS];
-    // Not set by a layout that is not uniform: comes back cut.
-    info[5] = 0x0103;
-    let answer = parse_tile_info(
-        &[],
-        &mut RawPlace::default(),
-        &mut info,
-        1,
-        0,
-        0,
-        64,
-        64,
-        0,
-        0,
-    );
-    assert_eq!((answer, info[5]), (0, 3));
-}
-
-#[test]
-fn short_rectangle_layout() {
-    let t = [1; TILE_NUMBERS];
-    let mut out = [9; 8];
-    // SAFETY: the layout is longer than told.
-    let answer = unsafe {
-        mubanlig_tile_rectangles(t.as_ptr(), TILE_NUMBERS - 1, 0, out.as_mut_ptr(), out.len())
+    let zero = Lent {
+        hdr: [0; HEADER_NUMBERS],
+        info: [0; INFO_BYTES],
+        cols: [0; 65],
+        rows: [0; 65],
+        ..at_the_end()
     };
-    assert_eq!((answer, out), (5, [9; 8]));
+    assert_eq!(header(HEADER_NUMBERS, LONG), (1, zero));
+}
+
+#[test]
+fn an_accepted_layout_writes_a_flag_of_0_or_1() {
+    let (answer, lent) = layout(LONG, 64);
+    // Not uniform, one column and one row; the least logarithm of the rows stays.
+    assert_eq!((answer, lent.info), (0, [0, 0, 0, 0, 1, 6, 0, 0, 1]));
+    let (answer, lent) = frame(1, 1, LONG, LONG);
+    assert_eq!((answer, lent.info), (0, [1, 6, 6, 6, 6, 6, 6, 6, 6]));
+}
+
+#[test]
+fn a_short_layout_has_no_rectangles() {
+    let (info, starts) = ([1; INFO_BYTES], [1; 65]);
+    for lengths in SHORT {
+        let mut out = [9; 8];
+        // SAFETY: the buffers are at least as long as told.
+        let answer = unsafe {
+            mubanlig_tile_rectangles(
+                info.as_ptr(),
+                lengths[0],
+                starts.as_ptr(),
+                lengths[1],
+                starts.as_ptr(),
+                lengths[2],
+                0,
+                out.as_mut_ptr(),
+                out.len(),
+            )
+        };
+        assert_eq!((answer, out), (5, [9; 8]));
+    }
 }
