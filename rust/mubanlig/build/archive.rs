@@ -68,7 +68,9 @@ fn symbols(library: &[u8]) -> Result<Vec<String>, Fault> {
         if &head[58..] != b"`\n" {
             return Err(Fault::NotALibrary);
         }
-        let size: usize = text(&head[48..58])?.parse().map_err(|_| Fault::NotALibrary)?;
+        let size: usize = text(&head[48..58])?
+            .parse()
+            .map_err(|_| Fault::NotALibrary)?;
         let body = next + HEAD;
         let end = body.checked_add(size).ok_or(Fault::Truncated)?;
         let member = library.get(body..end).ok_or(Fault::Truncated)?;

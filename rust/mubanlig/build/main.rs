@@ -44,7 +44,10 @@ fn link() -> Result<(), String> {
     )?;
     let root = sources::project(Path::new(&variable("CARGO_MANIFEST_DIR")));
     let linked = PathBuf::from(variable("OUT_DIR"));
-    match (settings::named_folder(env::var_os(settings::FOLDER).as_deref())?, root) {
+    match (
+        settings::named_folder(env::var_os(settings::FOLDER).as_deref())?,
+        root,
+    ) {
         (Some(folder), root) => take_named(&folder, root.as_deref(), &linked)?,
         (None, Some(root)) => take_proved(&root, &linked)?,
         (None, None) => {
@@ -108,7 +111,11 @@ fn take_proved(root: &Path, linked: &Path) -> Result<(), String> {
         screen.show(&format!(
             "{} is {} {}",
             library.display(),
-            if library.exists() { "older than" } else { "not there yet; newest source:" },
+            if library.exists() {
+                "older than"
+            } else {
+                "not there yet; newest source:"
+            },
             newest.path.display()
         ));
         for (name, library) in NAMES.iter().zip(LIBRARIES) {
@@ -172,7 +179,8 @@ fn copy(folder: &Path, linked: &Path) -> Result<(), String> {
         archive::check(&bytes, mark, INTERFACE)
             .map_err(|fault| format!("{} {fault}", path.display()))?;
         let copy = linked.join(library);
-        fs::write(&copy, bytes).map_err(|e| format!("{} can't be written ({e})", copy.display()))?;
+        fs::write(&copy, bytes)
+            .map_err(|e| format!("{} can't be written ({e})", copy.display()))?;
     }
     Ok(())
 }

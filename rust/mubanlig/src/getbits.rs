@@ -173,7 +173,14 @@ impl<'a> GetBits<'a> {
     /// 2^31: the error and 0, and nothing is used.
     #[inline]
     pub fn get_bits_subexp_u(&mut self, ref_val: u32, n: u32, k: i32) -> u32 {
-        ffi::get_bits_subexp_u(self.data, &mut self.position, &mut self.error, ref_val, n, k)
+        ffi::get_bits_subexp_u(
+            self.data,
+            &mut self.position,
+            &mut self.error,
+            ref_val,
+            n,
+            k,
+        )
     }
 
     /// A number above −`n` and below `n`, told by its distance from `ref_val`; `n` from 1 to 2^30, else the error and 0.

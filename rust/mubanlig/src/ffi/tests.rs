@@ -104,10 +104,13 @@ fn header(numbers: usize, lengths: Lengths) -> (u32, Lent) {
     (answer, lent)
 }
 
-/// A frame of 64 by 64 samples in a sequence whose layout has 6 columns and rows, from 0 on.
+/// The nine bytes of a sequence's layout: a flag that is not 1, and 6 columns and rows.
+const SEQ_INFO: [u8; INFO_BYTES] = [6, 0, 0, 0, 6, 0, 0, 0, 6];
+
+/// A frame of 64 by 64 samples in a sequence with that layout.
 fn frame(frame_type: u8, present: u8, lengths: Lengths, seq_lengths: Lengths) -> (u32, Lent) {
     let mut lent = LENT;
-    let (info, starts) = ([6; INFO_BYTES], [0; 65]);
+    let starts = [0; 65];
     // SAFETY: the buffers are at least as long as told.
     let answer = unsafe {
         mubanlig_parse_tile_info_frmhdr(
@@ -131,7 +134,7 @@ fn frame(frame_type: u8, present: u8, lengths: Lengths, seq_lengths: Lengths) ->
             0,
             0,
             present,
-            info.as_ptr(),
+            SEQ_INFO.as_ptr(),
             seq_lengths[0],
             starts.as_ptr(),
             seq_lengths[1],
@@ -203,7 +206,7 @@ fn an_accepted_layout_writes_a_flag_of_0_or_1() {
     // Not uniform, one column and one row; the least logarithm of the rows stays.
     assert_eq!((answer, lent.info), (0, [0, 0, 0, 0, 1, 6, 0, 0, 1]));
     let (answer, lent) = frame(1, 1, LONG, LONG);
-    assert_eq!((answer, lent.info), (0, [1, 6, 6, 6, 6, 6, 6, 6, 6]));
+    assert_eq!((answer, lent.info), (0, [1, 0, 0, 0, 6, 0, 0, 0, 6]));
 }
 
 #[test]

@@ -1,0 +1,697 @@
+/*
+ * Calls every function of include/mubanlig.h, as C and as C++. Each buffer is lent as a block of memory of exactly the length told,
+ * so that valgrind sees any reach past it. Prints each claim that fails, and ends with 1 if any does.
+ */
+#include "mubanlig.h"
+
+#include <stdio.h>
+#include <stdlib.h>
+#include <string.h>
+
+static unsigned long checks, failures;
+
+static void check(int holds, const char *claim, int line)
+{
+    checks++;
+    if (!holds) {
+        failures++;
+        fprintf(stderr, "line %d: %s\n", line, claim);
+    }
+}
+
+#define CHECK(claim) check((claim) ? 1 : 0, #claim, __LINE__)
+
+/* ---- What is lent ---- */
+
+/* The numbers of out: enough for 16 tiles and some behind. */
+#define OUT 70
+
+struct record {
+    size_t position;
+    uint8_t error;
+    uint8_t sb128;
+    int16_t delta_q[MUBANLIG_DELTAS];
+    uint16_t masks[MUBANLIG_MASKS];
+    int64_t hdr[MUBANLIG_HEADER_NUMBERS];
+    uint8_t info[MUBANLIG_INFO_BYTES];
+    uint16_t cols[MUBANLIG_STARTS];
+    uint16_t rows[MUBANLIG_STARTS];
+    uint32_t out[OUT];
+};
+
+/* How long each buffer is told to be. */
+struct lengths {
+    size_t delta_q, masks, hdr, info, cols, rows, out;
+};
+
+static const struct lengths LONG = {
+    MUBANLIG_DELTAS, MUBANLIG_MASKS, MUBANLIG_HEADER_NUMBERS, MUBANLIG_INFO_BYTES, MUBANLIG_STARTS, MUBANLIG_STARTS, OUT
+};
+
+/* A copy in a block of its own; NULL for length 0. */
+static void *lend(const void *from, size_t count, size_t size)
+{
+    void *block;
+    if (count == 0) {
+        return NULL;
+    }
+    block = malloc(count * size);
+    if (block == NULL) {
+        fprintf(stderr, "no memory\n");
+        exit(2);
+    }
+    memcpy(block, from, count * size);
+    return block;
+}
+
+static void take_back(void *to, void *block, size_t count, size_t size)
+{
+    if (block != NULL) {
+        memcpy(to, block, count * size);
+        free(block);
+    }
+}
+
+#define LEND(type, field, from, count) type *field = (type *)lend(from, count, sizeof(type))
+#define TAKE_BACK(field, to, count) take_back(to, field, count, sizeof(*field))
+
+/* All bytes of it, so that records can be compared whole. */
+static struct record filled(int byte)
+{
+    struct record r;
+    memset(&r, byte, sizeof r);
+    return r;
+}
+
+static int same(const struct record *a, const struct record *b)
+{
+    return a->position == b->position && a->error == b->error && a->sb128 == b->sb128
+        && memcmp(a->delta_q, b->delta_q, sizeof a->delta_q) == 0 && memcmp(a->masks, b->masks, sizeof a->masks) == 0
+        && memcmp(a->hdr, b->hdr, sizeof a->hdr) == 0 && memcmp(a->info, b->info, sizeof a->info) == 0
+        && memcmp(a->cols, b->cols, sizeof a->cols) == 0 && memcmp(a->rows, b->rows, sizeof a->rows) == 0
+        && memcmp(a->out, b->out, sizeof a->out) == 0;
+}
+
+/* ---- Calls ---- */
+
+struct bytes {
+    const uint8_t *s;
+    size_t len;
+};
+
+static struct bytes none(void)
+{
+    struct bytes b = { NULL, 0 };
+    return b;
+}
+
+static struct bytes some(const uint8_t *s, size_t len)
+{
+    struct bytes b;
+    b.s = s;
+    b.len = len;
+    return b;
+}
+
+struct layout_args {
+    int32_t sbmul;
+    uint8_t sb128, seq_sb128;
+    int32_t w, h;
+    uint8_t level, tier;
+};
+
+struct frame_args {
+    uint8_t frame_type;
+    int32_t width, height;
+    uint8_t seq_sb128;
+    int32_t max_width, max_height;
+    uint8_t level, tier, present;
+};
+
+static uint32_t seg_info(struct bytes b, struct record *r, struct lengths n, uint8_t ext)
+{
+    LEND(const uint8_t, s, b.s, b.len);
+    LEND(int16_t, delta_q, r->delta_q, n.delta_q);
+    LEND(uint16_t, masks, r->masks, n.masks);
+    uint32_t answer = mubanlig_parse_seg_info(s, b.len, &r->position, &r->error, delta_q, n.delta_q, masks, n.masks, ext);
+    free((void *)s);
+    TAKE_BACK(delta_q, r->delta_q, n.delta_q);
+    TAKE_BACK(masks, r->masks, n.masks);
+    return answer;
+}
+
+static uint32_t layout(struct bytes b, struct record *r, struct lengths n, struct layout_args a)
+{
+    LEND(const uint8_t, s, b.s, b.len);
+    LEND(uint8_t, info, r->info, n.info);
+    LEND(uint16_t, cols, r->cols, n.cols);
+    LEND(uint16_t, rows, r->rows, n.rows);
+    uint32_t answer = mubanlig_parse_tile_info(s, b.len, &r->position, &r->error, info, n.info, cols, n.cols, rows, n.rows,
+        a.sbmul, a.sb128, a.seq_sb128, a.w, a.h, a.level, a.tier);
+    free((void *)s);
+    TAKE_BACK(info, r->info, n.info);
+    TAKE_BACK(cols, r->cols, n.cols);
+    TAKE_BACK(rows, r->rows, n.rows);
+    return answer;
+}
+
+static uint32_t header(struct bytes b, struct record *r, struct lengths n, uint8_t strict)
+{
+    LEND(const uint8_t, s, b.s, b.len);
+    LEND(int64_t, hdr, r->hdr, n.hdr);
+    LEND(uint8_t, info, r->info, n.info);
+    LEND(uint16_t, cols, r->cols, n.cols);
+    LEND(uint16_t, rows, r->rows, n.rows);
+    uint32_t answer = mubanlig_parse_seq_hdr(s, b.len, &r->position, &r->error, strict, hdr, n.hdr,
+        info, n.info, cols, n.cols, rows, n.rows);
+    free((void *)s);
+    TAKE_BACK(hdr, r->hdr, n.hdr);
+    TAKE_BACK(info, r->info, n.info);
+    TAKE_BACK(cols, r->cols, n.cols);
+    TAKE_BACK(rows, r->rows, n.rows);
+    return answer;
+}
+
+/* The sequence's layout is that of seq. */
+static uint32_t frame(struct bytes b, struct record *r, struct lengths n, struct frame_args a, const struct record *seq, struct lengths m)
+{
+    LEND(const uint8_t, s, b.s, b.len);
+    LEND(uint8_t, info, r->info, n.info);
+    LEND(uint16_t, cols, r->cols, n.cols);
+    LEND(uint16_t, rows, r->rows, n.rows);
+    LEND(const uint8_t, seq_info, seq->info, m.info);
+    LEND(const uint16_t, seq_cols, seq->cols, m.cols);
+    LEND(const uint16_t, seq_rows, seq->rows, m.rows);
+    uint32_t answer = mubanlig_parse_tile_info_frmhdr(s, b.len, &r->position, &r->error, a.frame_type, a.width, a.height, &r->sb128,
+        info, n.info, cols, n.cols, rows, n.rows, a.seq_sb128, a.max_width, a.max_height, a.level, a.tier, a.present,
+        seq_info, m.info, seq_cols, m.cols, seq_rows, m.rows);
+    free((void *)s);
+    free((void *)seq_info);
+    free((void *)seq_cols);
+    free((void *)seq_rows);
+    TAKE_BACK(info, r->info, n.info);
+    TAKE_BACK(cols, r->cols, n.cols);
+    TAKE_BACK(rows, r->rows, n.rows);
+    return answer;
+}
+
+static uint32_t rectangles(struct record *r, struct lengths n, uint8_t sb128)
+{
+    LEND(const uint8_t, info, r->info, n.info);
+    LEND(const uint16_t, cols, r->cols, n.cols);
+    LEND(const uint16_t, rows, r->rows, n.rows);
+    LEND(uint32_t, out, r->out, n.out);
+    uint32_t answer = mubanlig_tile_rectangles(info, n.info, cols, n.cols, rows, n.rows, sb128, out, n.out);
+    free((void *)info);
+    free((void *)cols);
+    free((void *)rows);
+    TAKE_BACK(out, r->out, n.out);
+    return answer;
+}
+
+#define READINGS 10
+
+/* The reading of a number; signed ones as unsigned. */
+static uint32_t reading(int which, struct bytes b, size_t *position, uint8_t *error, uint32_t x, uint32_t y, uint32_t z)
+{
+    LEND(const uint8_t, s, b.s, b.len);
+    uint32_t value = 0;
+    switch (which) {
+    case 0:
+        value = mubanlig_get_bit(s, b.len, position, error);
+        break;
+    case 1:
+        value = mubanlig_get_bits(s, b.len, position, error, (int32_t)x);
+        break;
+    case 2:
+        value = (uint32_t)mubanlig_get_sbits(s, b.len, position, error, (int32_t)x);
+        break;
+    case 3:
+        value = mubanlig_get_vlc(s, b.len, position, error);
+        break;
+    case 4:
+        value = mubanlig_get_uniform(s, b.len, position, error, x);
+        break;
+    case 5:
+        value = mubanlig_get_ref_uniform(s, b.len, position, error, x, y);
+        break;
+    case 6:
+        value = mubanlig_get_uleb128(s, b.len, position, error);
+        break;
+    case 7:
+        value = mubanlig_get_golomb(s, b.len, position, error, x);
+        break;
+    case 8:
+        value = mubanlig_get_bits_subexp_u(s, b.len, position, error, x, y, (int32_t)z);
+        break;
+    case 9:
+        value = (uint32_t)mubanlig_get_bits_subexp(s, b.len, position, error, (int32_t)x, y);
+        break;
+    }
+    free((void *)s);
+    return value;
+}
+
+/* ---- Claims ---- */
+
+static const struct layout_args SMALL = { 1, 0, 0, 256, 128, 0, 0 };
+
+static struct layout_args sized(int32_t w, int32_t h)
+{
+    struct layout_args a = SMALL;
+    a.w = w;
+    a.h = h;
+    return a;
+}
+
+static void interfaces(void)
+{
+    CHECK(mubanlig_bits_interface_2() == MUBANLIG_INTERFACE);
+    CHECK(mubanlig_interface_2() == MUBANLIG_INTERFACE);
+}
+
+static void readings_of_known_bytes(void)
+{
+    static const uint8_t S[] = { 0xA5, 0x0F, 0xF0, 0x81, 0x80 };
+    size_t position = 0;
+    uint8_t error = 0;
+    CHECK(mubanlig_get_bit(S, sizeof S, &position, &error) == 1 && position == 1);
+    CHECK(mubanlig_get_bits(S, sizeof S, &position, &error, 3) == 2 && position == 4);
+    CHECK(mubanlig_byte_pos(S, sizeof S, position) == 1);
+    CHECK(mubanlig_remaining_bytes(S, sizeof S, position) == 4);
+    CHECK(mubanlig_get_sbits(S, sizeof S, &position, &error, 4) == 5 && position == 8);
+    CHECK(mubanlig_get_vlc(S, sizeof S, &position, &error) == 30 && position == 17);
+    mubanlig_bytealign(S, sizeof S, &position);
+    CHECK(position == 24 && error == 0);
+    CHECK(mubanlig_get_uleb128(S, sizeof S, &position, &error) == 1 && position == 40);
+    /* The data ran out inside it: the error, which stays. */
+    CHECK(error == 1);
+    CHECK(mubanlig_get_uniform(S, sizeof S, &position, &error, 1) == 0 && error == 1);
+    position = 0;
+    error = 0;
+    CHECK(mubanlig_get_uniform(S, sizeof S, &position, &error, 3) == 1 && position == 2);
+    CHECK(mubanlig_get_golomb(S, sizeof S, &position, &error, 0) == 1 && position == 4);
+    CHECK(mubanlig_get_ref_uniform(S, sizeof S, &position, &error, 5, 9) == 4 && position == 5);
+    CHECK(error == 0);
+    CHECK(mubanlig_get_bits(S, sizeof S, &position, &error, 33) == 0 && position == 5 && error == 1);
+    error = 0;
+    CHECK(mubanlig_get_bits_subexp_u(S, sizeof S, &position, &error, 3, 3, 1) == 0 && position == 5 && error == 1);
+    error = 0;
+    CHECK(mubanlig_get_bits_subexp(S, sizeof S, &position, &error, 3, 3) == -2 && error == 1);
+}
+
+/* No data as NULL: what each function answers, and no bit is used. */
+static void no_data(void)
+{
+    int which;
+    struct record r, zero = filled(0);
+    for (which = 0; which < READINGS; which++) {
+        size_t position = 0;
+        uint8_t error = 0;
+        reading(which, none(), &position, &error, 5, 7, 2);
+        CHECK(position == 0 && error == 1);
+    }
+    CHECK(mubanlig_byte_pos(NULL, 0, 0) == 0);
+    CHECK(mubanlig_remaining_bytes(NULL, 0, 7) == 0);
+    r.position = 9;
+    mubanlig_bytealign(NULL, 0, &r.position);
+    CHECK(r.position == 0);
+    r = filled(0);
+    CHECK(seg_info(none(), &r, LONG, 1) == MUBANLIG_ACCEPTED && r.error == 1);
+    r = filled(0);
+    CHECK(layout(none(), &r, LONG, sized(4096, 64)) == MUBANLIG_ACCEPTED);
+    CHECK(r.error == 1 && r.info[MUBANLIG_INFO_COLS] == 64 && r.cols[64] == 64);
+    r = filled(0x55);
+    r.position = 0;
+    r.error = 0;
+    CHECK(header(none(), &r, LONG, 0) == MUBANLIG_INVALID_SEQUENCE_HEADER);
+    CHECK(memcmp(r.hdr, zero.hdr, sizeof r.hdr) == 0 && memcmp(r.info, zero.info, sizeof r.info) == 0);
+    CHECK(memcmp(r.cols, zero.cols, sizeof r.cols) == 0 && memcmp(r.rows, zero.rows, sizeof r.rows) == 0);
+    r = filled(0);
+    CHECK(mubanlig_tile_rectangles(NULL, 0, NULL, 0, NULL, 0, 0, NULL, 0) == MUBANLIG_SHORT_BUFFER);
+}
+
+static void a_layout_and_its_rectangles(void)
+{
+    static const uint8_t S[] = { 0x28 };
+    static const uint32_t WHOLE[] = { 0, 2, 3, 4 };
+    struct record r = filled(0);
+    struct lengths n = LONG;
+    uint32_t area = 0;
+    size_t i;
+    CHECK(layout(some(S, sizeof S), &r, LONG, SMALL) == MUBANLIG_ACCEPTED);
+    CHECK(r.position == 5 && r.error == 0);
+    CHECK(r.info[MUBANLIG_INFO_UNIFORM] == 0 && r.info[MUBANLIG_INFO_COLS] == 3 && r.info[MUBANLIG_INFO_ROWS] == 1);
+    for (i = 0; i < 4; i++) {
+        CHECK(r.cols[i] == WHOLE[i]);
+    }
+    CHECK(r.rows[0] == 0 && r.rows[1] == 2);
+    n.out = 11;
+    CHECK(rectangles(&r, n, 0) == MUBANLIG_SHORT_BUFFER && r.out[0] == 0);
+    n.out = 13;
+    r.out[12] = 7;
+    CHECK(rectangles(&r, n, 0) == MUBANLIG_ACCEPTED && r.out[12] == 7);
+    for (i = 0; i < 12; i += MUBANLIG_TILE_NUMBERS) {
+        area += r.out[i + 2] * r.out[i + 3];
+    }
+    CHECK(area == 256 * 128);
+}
+
+static void a_header(void)
+{
+    uint8_t s[] = { 0x82, 0x05, 0x00, 0x00, 0x00, 0x80, 0x10, 0x02 };
+    struct record r = filled(0);
+    CHECK(header(some(s, sizeof s), &r, LONG, 1) == MUBANLIG_ACCEPTED);
+    CHECK(r.hdr[MUBANLIG_HDR_MAX_WIDTH] == 1 && r.hdr[MUBANLIG_HDR_MAX_HEIGHT] == 1);
+    CHECK(r.hdr[MUBANLIG_HDR_LAYOUT] == MUBANLIG_I400 && r.hdr[MUBANLIG_HDR_TILING_PRESENT] == MUBANLIG_OFF);
+    s[7] = 0;
+    r = filled(0);
+    /* Any byte but 0 is a set flag. */
+    CHECK(header(some(s, sizeof s), &r, LONG, 0x80) == MUBANLIG_INVALID_TRAILING_BITS);
+    r = filled(0);
+    CHECK(header(some(s, sizeof s), &r, LONG, 0) == MUBANLIG_ACCEPTED);
+    r = filled(0);
+    CHECK(header(some(s, 7), &r, LONG, 0) == MUBANLIG_INVALID_SEQUENCE_HEADER);
+}
+
+/* An inter frame 192 wide in a sequence 256 wide reuses its columns 0 2 4 whole. */
+static void a_frame(void)
+{
+    static const uint8_t S[] = { 0xC0 };
+    static const struct frame_args A = { MUBANLIG_FRAME_INTER, 192, 64, 0, 256, 64, 0, 0, MUBANLIG_ON };
+    struct record seq = filled(0), r = filled(0);
+    CHECK(layout(some(S, sizeof S), &seq, LONG, sized(256, 64)) == MUBANLIG_ACCEPTED);
+    CHECK(seq.info[MUBANLIG_INFO_UNIFORM] == 1);
+    CHECK(frame(none(), &r, LONG, A, &seq, LONG) == MUBANLIG_ACCEPTED);
+    CHECK(r.position == 0 && r.error == 0 && r.cols[0] == 0 && r.cols[1] == 2 && r.cols[2] == 4);
+    CHECK(memcmp(r.info, seq.info, sizeof r.info) == 0);
+}
+
+/* Refused calls, and what was lent comes back as it was. */
+static void refusals(void)
+{
+    static const uint8_t S[] = { 0xFF, 0xFF };
+    static const struct frame_args A = { MUBANLIG_FRAME_KEY, 64, 64, 0, 64, 64, 0, 0, MUBANLIG_ON };
+    static const uint8_t LAYOUT[] = { 7, 44, 2, 44, 200, 9, 8, 77, 232 };
+    struct record given = filled(0x2C), seq = filled(0), r;
+    struct frame_args a = A;
+    size_t i;
+    given.position = 3;
+    given.error = 0;
+    memcpy(given.info, LAYOUT, sizeof LAYOUT);
+
+    r = given;
+    CHECK(layout(some(S, sizeof S), &r, LONG, sized(0, 64)) == MUBANLIG_WRONG_ARGUMENTS && same(&r, &given));
+    r = given;
+    CHECK(layout(some(S, sizeof S), &r, LONG, sized(64, 65537)) == MUBANLIG_WRONG_ARGUMENTS && same(&r, &given));
+
+    /* 65 superblocks of one column each: the bits are used up, nothing else changes. */
+    r = given;
+    r.position = 0;
+    CHECK(layout(none(), &r, LONG, sized(4160, 64)) == MUBANLIG_INVALID_TILE_INFO && r.position == 0 && r.error == 1);
+    r.position = given.position;
+    r.error = given.error;
+    CHECK(same(&r, &given));
+
+    /* A sequence's record that can't be used: too many columns, no row, a logarithm above 6, a start above 1024. */
+    seq.info[MUBANLIG_INFO_COLS] = 1;
+    seq.info[MUBANLIG_INFO_ROWS] = 1;
+    r = given;
+    CHECK(frame(some(S, sizeof S), &r, LONG, a, &seq, LONG) == MUBANLIG_ACCEPTED);
+    for (i = 0; i < 4; i++) {
+        struct record bad = seq;
+        if (i == 0) {
+            bad.info[MUBANLIG_INFO_COLS] = 65;
+        } else if (i == 1) {
+            bad.info[MUBANLIG_INFO_ROWS] = 0;
+        } else if (i == 2) {
+            bad.info[MUBANLIG_INFO_LOG2_COLS] = 7;
+        } else {
+            bad.cols[1] = 1025;
+        }
+        r = given;
+        CHECK(frame(some(S, sizeof S), &r, LONG, a, &bad, LONG) == MUBANLIG_WRONG_ARGUMENTS && same(&r, &given));
+    }
+    a.present = 3;
+    r = given;
+    CHECK(frame(some(S, sizeof S), &r, LONG, a, &seq, LONG) == MUBANLIG_WRONG_ARGUMENTS && same(&r, &given));
+    a = A;
+    a.frame_type = 4;
+    r = given;
+    CHECK(frame(some(S, sizeof S), &r, LONG, a, &seq, LONG) == MUBANLIG_WRONG_ARGUMENTS && same(&r, &given));
+
+    /* Rectangles of too many columns or rows, of starts that fall, of no such code. */
+    for (i = 0; i < 5; i++) {
+        struct record bad = seq;
+        uint8_t sb128 = 0;
+        if (i == 0) {
+            bad.info[MUBANLIG_INFO_COLS] = 65;
+        } else if (i == 1) {
+            bad.info[MUBANLIG_INFO_ROWS] = 65;
+        } else if (i == 2) {
+            bad.rows[0] = 1;
+        } else if (i == 3) {
+            bad.info[MUBANLIG_INFO_COLS] = 0;
+        } else {
+            sb128 = 3;
+        }
+        r = bad;
+        CHECK(rectangles(&r, LONG, sb128) == MUBANLIG_WRONG_ARGUMENTS && same(&r, &bad));
+    }
+}
+
+/* Each buffer one element short, and of no length: 5, and nothing changes, the position neither. */
+static void short_buffers(void)
+{
+    static const uint8_t S[] = { 0xFF, 0xFF };
+    static const struct frame_args A = { MUBANLIG_FRAME_KEY, 64, 64, 0, 64, 64, 0, 0, MUBANLIG_OFF };
+    struct record given = filled(1), r;
+    size_t which;
+    /* Past the end, so that a position stored would show. */
+    given.position = 1000;
+    given.error = 9;
+    for (which = 0; which < 12; which++) {
+        struct lengths n = LONG;
+        size_t *length = &n.rows;
+        switch (which / 2) {
+        case 0: length = &n.delta_q; break;
+        case 1: length = &n.masks; break;
+        case 2: length = &n.hdr; break;
+        case 3: length = &n.info; break;
+        case 4: length = &n.cols; break;
+        default: break;
+        }
+        *length = which % 2 ? 0 : *length - 1;
+        if (which < 4) {
+            r = given;
+            CHECK(seg_info(some(S, sizeof S), &r, n, 0) == MUBANLIG_SHORT_BUFFER && same(&r, &given));
+            continue;
+        }
+        r = given;
+        CHECK(header(some(S, sizeof S), &r, n, 0) == MUBANLIG_SHORT_BUFFER && same(&r, &given));
+        if (which < 6) {
+            continue;
+        }
+        r = given;
+        CHECK(layout(some(S, sizeof S), &r, n, SMALL) == MUBANLIG_SHORT_BUFFER && same(&r, &given));
+        r = given;
+        CHECK(frame(some(S, sizeof S), &r, n, A, &given, LONG) == MUBANLIG_SHORT_BUFFER && same(&r, &given));
+        r = given;
+        CHECK(frame(some(S, sizeof S), &r, LONG, A, &given, n) == MUBANLIG_SHORT_BUFFER && same(&r, &given));
+        r = given;
+        CHECK(rectangles(&r, n, 0) == MUBANLIG_SHORT_BUFFER && same(&r, &given));
+    }
+}
+
+/* A position past the end counts as the end, and comes back as the end. */
+static void past_the_end(void)
+{
+    static const uint8_t S[] = { 0xFF, 0xFF };
+    static const size_t POSITIONS[] = { 16, 17, 1000, (size_t)1 << 63, (size_t)-1 };
+    struct record r;
+    size_t i;
+    int which;
+    for (i = 0; i < sizeof POSITIONS / sizeof POSITIONS[0]; i++) {
+        for (which = 0; which < READINGS; which++) {
+            size_t position = POSITIONS[i];
+            uint8_t error = 0;
+            reading(which, some(S, sizeof S), &position, &error, 5, 7, 2);
+            CHECK(position == 16 && error == 1);
+        }
+        CHECK(mubanlig_byte_pos(S, sizeof S, POSITIONS[i]) == 2);
+        CHECK(mubanlig_remaining_bytes(S, sizeof S, POSITIONS[i]) == 0);
+        r = filled(0);
+        r.position = POSITIONS[i];
+        mubanlig_bytealign(S, sizeof S, &r.position);
+        CHECK(r.position == 16);
+        r.position = POSITIONS[i];
+        CHECK(layout(some(S, sizeof S), &r, LONG, SMALL) == MUBANLIG_ACCEPTED && r.position == 16 && r.error == 1);
+        r.position = POSITIONS[i];
+        CHECK(header(some(S, sizeof S), &r, LONG, 0) == MUBANLIG_INVALID_SEQUENCE_HEADER && r.position == 16);
+        r.position = POSITIONS[i];
+        CHECK(seg_info(some(S, sizeof S), &r, LONG, 0) == MUBANLIG_ACCEPTED && r.position == 16);
+    }
+}
+
+/* ---- Random bytes ---- */
+
+static uint64_t state = 1;
+
+/* A number below n. */
+static uint32_t below(uint32_t n)
+{
+    state = state * 6364136223846793005u + 1442695040888963407u;
+    return (uint32_t)(state >> 33) % n;
+}
+
+static uint32_t any_argument(void)
+{
+    static const uint32_t FIRST[] = { 0, 1, 2, 7, 31, 32, 33, 64, 65536, 1u << 30, 0x7FFFFFFF, 0x80000000u, 0xFFFFFFFFu };
+    return FIRST[below(sizeof FIRST / sizeof FIRST[0])] + below(3) - 1;
+}
+
+static void fill_random(void *to, size_t size)
+{
+    uint8_t *bytes = (uint8_t *)to;
+    size_t i;
+    for (i = 0; i < size; i++) {
+        bytes[i] = (uint8_t)below(256);
+    }
+}
+
+/* What holds of a layout that was accepted. */
+static void check_layout(const struct record *r, uint32_t sbw, uint32_t sbh)
+{
+    uint8_t cols = r->info[MUBANLIG_INFO_COLS], rows = r->info[MUBANLIG_INFO_ROWS];
+    size_t i;
+    int rising = 1;
+    CHECK(r->info[MUBANLIG_INFO_UNIFORM] <= 1);
+    CHECK(1 <= cols && cols <= 64 && 1 <= rows && rows <= 64);
+    if (cols > 64 || rows > 64) {
+        return;
+    }
+    for (i = 0; i < cols; i++) {
+        rising &= r->cols[i] < r->cols[i + 1];
+    }
+    for (i = 0; i < rows; i++) {
+        rising &= r->rows[i] < r->rows[i + 1];
+    }
+    CHECK(rising && r->cols[0] == 0 && r->rows[0] == 0);
+    CHECK(r->cols[cols] == sbw && r->rows[rows] == sbh);
+}
+
+/* Are all but the place and the three buffers of a layout the same, and these too if the call was refused? */
+static int keeps(const struct record *after, const struct record *before, uint32_t answer)
+{
+    struct record r = *after;
+    r.position = before->position;
+    r.error = before->error;
+    if (answer == MUBANLIG_ACCEPTED) {
+        memcpy(r.info, before->info, sizeof r.info);
+        memcpy(r.cols, before->cols, sizeof r.cols);
+        memcpy(r.rows, before->rows, sizeof r.rows);
+        r.sb128 = before->sb128;
+    }
+    return same(&r, before);
+}
+
+static void random_turn(void)
+{
+    uint8_t data[40];
+    struct record given, seq, r;
+    struct layout_args a;
+    struct frame_args f;
+    size_t len = below(sizeof data + 1), end;
+    uint32_t answer, mark;
+    struct bytes b;
+    int which = (int)below(READINGS);
+    fill_random(data, sizeof data);
+    b = len == 0 ? none() : some(data, len);
+    end = 8 * len;
+    fill_random(&given, sizeof given);
+    given.position = below(8) == 0 ? given.position : below((uint32_t)end + 20);
+    given.error = below(2) ? 0 : given.error;
+
+    r = given;
+    reading(which, b, &r.position, &r.error, any_argument(), any_argument(), any_argument());
+    CHECK(r.position <= end && (given.error == 0 ? r.error <= 1 : r.error == given.error));
+    CHECK(given.position > end || r.position >= given.position);
+    CHECK(mubanlig_byte_pos(b.s, b.len, r.position) + mubanlig_remaining_bytes(b.s, b.len, r.position) == len);
+    mubanlig_bytealign(b.s, b.len, &r.position);
+    CHECK(r.position % 8 == 0 && r.position <= end);
+
+    r = given;
+    CHECK(seg_info(b, &r, LONG, (uint8_t)below(3)) == MUBANLIG_ACCEPTED && r.position <= end);
+
+    a.sb128 = (uint8_t)below(4);
+    a.seq_sb128 = (uint8_t)(below(4) ? a.sb128 : below(4));
+    a.sbmul = a.sb128 == a.seq_sb128 ? 1 : 2;
+    a.w = (int32_t)(below(4) ? 1 + below(65536) : any_argument());
+    a.h = (int32_t)(below(4) ? 1 + below(65536) : any_argument());
+    a.level = (uint8_t)below(33);
+    a.tier = (uint8_t)below(2);
+    r = given;
+    answer = layout(b, &r, LONG, a);
+    CHECK(answer == MUBANLIG_ACCEPTED || answer == MUBANLIG_INVALID_TILE_INFO || answer == MUBANLIG_WRONG_ARGUMENTS);
+    CHECK(keeps(&r, &given, answer) && r.position <= end);
+    if (answer == MUBANLIG_ACCEPTED) {
+        mark = (64u << a.sb128) - 1;
+        check_layout(&r, ((uint32_t)a.w + mark) >> (6 + a.sb128), ((uint32_t)a.h + mark) >> (6 + a.sb128));
+        answer = rectangles(&r, LONG, a.sb128);
+        CHECK(answer == MUBANLIG_ACCEPTED || answer == MUBANLIG_SHORT_BUFFER);
+    }
+
+    r = given;
+    answer = rectangles(&r, LONG, (uint8_t)below(3));
+    CHECK(answer <= 5 && keeps(&r, &given, MUBANLIG_ACCEPTED) == (answer != MUBANLIG_ACCEPTED));
+
+    r = given;
+    answer = header(b, &r, LONG, (uint8_t)below(2));
+    CHECK(answer <= MUBANLIG_INVALID_TRAILING_BITS && r.position <= end);
+
+    /* A sequence's record that may be usable or not. */
+    seq = given;
+    if (below(2)) {
+        struct record fresh = filled(0);
+        a.sbmul = 1;
+        a.sb128 = a.seq_sb128 = (uint8_t)below(3);
+        a.w = 1 + (int32_t)below(8192);
+        a.h = 1 + (int32_t)below(8192);
+        a.level = (uint8_t)below(32);
+        layout(b, &fresh, LONG, a);
+        seq = fresh;
+    }
+    f.frame_type = (uint8_t)below(5);
+    f.width = 1 + (int32_t)below(8192);
+    f.height = 1 + (int32_t)below(8192);
+    f.seq_sb128 = a.seq_sb128;
+    f.max_width = 8192;
+    f.max_height = 8192;
+    f.level = a.level;
+    f.tier = a.tier;
+    f.present = (uint8_t)below(4);
+    r = given;
+    answer = frame(b, &r, LONG, f, &seq, LONG);
+    CHECK(answer == MUBANLIG_ACCEPTED || answer == MUBANLIG_INVALID_TILE_INFO || answer == MUBANLIG_WRONG_ARGUMENTS);
+    CHECK(keeps(&r, &given, answer) && r.position <= end);
+    CHECK(answer != MUBANLIG_ACCEPTED || (r.info[MUBANLIG_INFO_UNIFORM] <= 1 && r.sb128 <= 2));
+}
+
+int main(void)
+{
+    int turn;
+    interfaces();
+    readings_of_known_bytes();
+    no_data();
+    a_layout_and_its_rectangles();
+    a_header();
+    a_frame();
+    refusals();
+    short_buffers();
+    past_the_end();
+    for (turn = 0; turn < 3000; turn++) {
+        random_turn();
+    }
+    printf("%lu claims, %lu failed\n", checks, failures);
+    return failures != 0;
+}
