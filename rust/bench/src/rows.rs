@@ -1,6 +1,6 @@
 //! The rows of the table: loops over whole calls.
 
-use crate::inputs::Inputs;
+use crate::inputs::{FrameInput, Inputs, LayoutInput};
 use crate::library::Library;
 use std::hint::black_box;
 
@@ -40,79 +40,103 @@ impl Row {
 
     /// Runs at least `calls` calls of the row. The calls made, and a number of what was read.
     pub fn run<L: Library>(self, inputs: &Inputs, calls: u64) -> (u64, u64) {
-        let mut made = 0;
-        let mut mark: u64 = 0;
         match self {
-            Self::GetBit => {
-                while made < calls {
-                    let gb = &mut L::reader(black_box(&inputs.bytes));
-                    for _ in 0..8 * inputs.bytes.len() {
-                        mark = mark.wrapping_add(u64::from(black_box(L::get_bit(gb))));
-                    }
-                    made += 8 * inputs.bytes.len() as u64;
-                }
-            }
-            Self::GetBits => {
-                while made < calls {
-                    let gb = &mut L::reader(black_box(&inputs.bytes));
-                    for &n in &inputs.widths {
-                        mark = mark.wrapping_add(u64::from(black_box(L::get_bits(gb, n))));
-                    }
-                    made += inputs.widths.len() as u64;
-                }
-            }
-            Self::GetUniform => {
-                while made < calls {
-                    let gb = &mut L::reader(black_box(&inputs.bytes));
-                    for &max in &inputs.maxima {
-                        mark = mark.wrapping_add(u64::from(black_box(L::get_uniform(gb, max))));
-                    }
-                    made += inputs.maxima.len() as u64;
-                }
-            }
-            Self::TileInfoUniform | Self::TileInfoNonUniform => {
-                let list = if self == Self::TileInfoUniform {
-                    &inputs.uniform
-                } else {
-                    &inputs.non_uniform
-                };
-                let mut t = L::Tile::default();
-                while made < calls {
-                    for input in list {
-                        let gb = &mut L::reader(black_box(&input.data));
-                        L::parse_tile_info(&mut t, gb, black_box(&input.args));
-                        mark = mark.wrapping_add(L::tile_mark(black_box(&t)));
-                    }
-                    made += list.len() as u64;
-                }
-            }
-            Self::SeqHdr => {
-                while made < calls {
-                    for data in &inputs.headers {
-                        let hdr = L::parse_seq_hdr(&mut L::reader(black_box(data)));
-                        if let Some(hdr) = black_box(&hdr) {
-                            mark = mark.wrapping_add(L::header_mark(hdr));
-                        }
-                    }
-                    made += inputs.headers.len() as u64;
-                }
-            }
-            Self::TileInfoFrmhdr => {
-                let mut list: Vec<_> = inputs
-                    .frames
-                    .iter()
-                    .map(|input| (L::frame(&input.args), &input.data))
-                    .collect();
-                while made < calls {
-                    for ((hdr, seqhdr), data) in &mut list {
-                        let gb = &mut L::reader(black_box(data));
-                        L::parse_tile_info_frmhdr(hdr, black_box(seqhdr), gb);
-                        mark = mark.wrapping_add(L::frame_mark(black_box(hdr)));
-                    }
-                    made += list.len() as u64;
-                }
+            Self::GetBit => get_bit::<L>(&inputs.bytes, calls),
+            Self::GetBits => get_bits::<L>(&inputs.bytes, &inputs.widths, calls),
+            Self::GetUniform => get_uniform::<L>(&inputs.bytes, &inputs.maxima, calls),
+            Self::TileInfoUniform => parse_tile_info::<L>(&inputs.uniform, calls),
+            Self::TileInfoNonUniform => parse_tile_info::<L>(&inputs.non_uniform, calls),
+            Self::SeqHdr => parse_seq_hdr::<L>(&inputs.headers, calls),
+            Self::TileInfoFrmhdr => parse_tile_info_frmhdr::<L>(&inputs.frames, calls),
+        }
+    }
+}
+
+// Each row is a function of its own for each library: in a larger one its sum may be kept in memory.
+
+#[inline(never)]
+fn get_bit<L: Library>(bytes: &[u8], calls: u64) -> (u64, u64) {
+    let (mut made, mut mark) = (0, 0_u64);
+    while made < calls {
+        let gb = &mut L::reader(black_box(bytes));
+        for _ in 0..8 * bytes.len() {
+            mark = mark.wrapping_add(u64::from(black_box(L::get_bit(gb))));
+        }
+        made += 8 * bytes.len() as u64;
+    }
+    (made, mark)
+}
+
+#[inline(never)]
+fn get_bits<L: Library>(bytes: &[u8], widths: &[i32], calls: u64) -> (u64, u64) {
+    let (mut made, mut mark) = (0, 0_u64);
+    while made < calls {
+        let gb = &mut L::reader(black_box(bytes));
+        for &n in widths {
+            mark = mark.wrapping_add(u64::from(black_box(L::get_bits(gb, n))));
+        }
+        made += widths.len() as u64;
+    }
+    (made, mark)
+}
+
+#[inline(never)]
+fn get_uniform<L: Library>(bytes: &[u8], maxima: &[u32], calls: u64) -> (u64, u64) {
+    let (mut made, mut mark) = (0, 0_u64);
+    while made < calls {
+        let gb = &mut L::reader(black_box(bytes));
+        for &max in maxima {
+            mark = mark.wrapping_add(u64::from(black_box(L::get_uniform(gb, max))));
+        }
+        made += maxima.len() as u64;
+    }
+    (made, mark)
+}
+
+#[inline(never)]
+fn parse_tile_info<L: Library>(list: &[LayoutInput], calls: u64) -> (u64, u64) {
+    let (mut made, mut mark) = (0, 0_u64);
+    let mut t = L::Tile::default();
+    while made < calls {
+        for input in list {
+            let gb = &mut L::reader(black_box(&input.data));
+            L::parse_tile_info(&mut t, gb, black_box(&input.args));
+            mark = mark.wrapping_add(L::tile_mark(black_box(&t)));
+        }
+        made += list.len() as u64;
+    }
+    (made, mark)
+}
+
+#[inline(never)]
+fn parse_seq_hdr<L: Library>(list: &[Vec<u8>], calls: u64) -> (u64, u64) {
+    let (mut made, mut mark) = (0, 0_u64);
+    while made < calls {
+        for data in list {
+            let hdr = L::parse_seq_hdr(&mut L::reader(black_box(data)));
+            if let Some(hdr) = black_box(&hdr) {
+                mark = mark.wrapping_add(L::header_mark(hdr));
             }
         }
-        (made, mark)
+        made += list.len() as u64;
     }
+    (made, mark)
+}
+
+#[inline(never)]
+fn parse_tile_info_frmhdr<L: Library>(frames: &[FrameInput], calls: u64) -> (u64, u64) {
+    let (mut made, mut mark) = (0, 0_u64);
+    let mut list: Vec<_> = frames
+        .iter()
+        .map(|input| (L::frame(&input.args), &input.data))
+        .collect();
+    while made < calls {
+        for ((hdr, seqhdr), data) in &mut list {
+            let gb = &mut L::reader(black_box(data));
+            L::parse_tile_info_frmhdr(hdr, black_box(seqhdr), gb);
+            mark = mark.wrapping_add(L::frame_mark(black_box(hdr)));
+        }
+        made += list.len() as u64;
+    }
+    (made, mark)
 }

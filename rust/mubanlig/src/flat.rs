@@ -200,3 +200,6 @@ pub(crate) fn sequence_header(numbers: &[i64; HEADER_NUMBERS], t: TileInfo) -> S
         film_grain_present: row.flag(),
     }
 }
+
+#[cfg(test)]
+mod tests;

@@ -2,7 +2,8 @@
 
 use mubanlig::{
     AdaptiveBoolean, Error, FrameHeader, FrameType, GetBits, PixelLayout, Place, SequenceHeader,
-    TileInfo, parse_seq_hdr, parse_tile_info, parse_tile_info_frmhdr, tile_rectangles,
+    TileInfo, parse_seq_hdr, parse_tile_info, parse_tile_info_frmhdr, parse_tile_info_frmhdr_parts,
+    tile_rectangles,
 };
 
 /// A layout read over a fresh record at level 0, tier 0; and whether the reader's error is set.
@@ -14,33 +15,25 @@ fn layout(pair: [u8; 2], w: i32, h: i32, data: &[u8]) -> (Result<TileInfo, Error
     (read.map(|()| t), gb.has_error())
 }
 
-fn columns(t: &TileInfo) -> &[u16] {
-    &t.col_start_sb[..=usize::from(t.cols)]
-}
-
-fn rows(t: &TileInfo) -> &[u16] {
-    &t.row_start_sb[..=usize::from(t.rows)]
-}
-
 #[test]
 fn listed_layout() {
     let (t, error) = layout([0, 0], 256, 128, &[0x28]);
     let t = t.unwrap();
     assert!(!t.uniform && !error);
-    assert_eq!(columns(&t), [0, 2, 3, 4]);
-    assert_eq!(rows(&t), [0, 2]);
+    assert_eq!(t.col_starts(), [0, 2, 3, 4]);
+    assert_eq!(t.row_starts(), [0, 2]);
 }
 
 #[test]
 fn uniform_layouts() {
     let read = |pair, w, h, data: &[u8]| layout(pair, w, h, data).0.unwrap();
-    assert_eq!(columns(&read([0, 0], 320, 64, &[0xE0])), [0, 2, 3, 4, 5]);
+    assert_eq!(read([0, 0], 320, 64, &[0xE0]).col_starts(), [0, 2, 3, 4, 5]);
     let t = read([0, 0], 320, 64, &[0xF0]);
-    assert_eq!(columns(&t), [0, 1, 2, 3, 4, 5]);
+    assert_eq!(t.col_starts(), [0, 1, 2, 3, 4, 5]);
     assert_eq!(t.log2_cols, 3);
-    assert_eq!(columns(&read([0, 0], 330, 64, &[0xE0])), [0, 2, 3, 4, 6]);
-    assert_eq!(columns(&read([1, 2], 600, 128, &[0xC0])), [0, 2, 5]);
-    assert_eq!(rows(&read([0, 0], 4032, 4672, &[0x80])), [0, 37, 73]);
+    assert_eq!(read([0, 0], 330, 64, &[0xE0]).col_starts(), [0, 2, 3, 4, 6]);
+    assert_eq!(read([1, 2], 600, 128, &[0xC0]).col_starts(), [0, 2, 5]);
+    assert_eq!(read([0, 0], 4032, 4672, &[0x80]).row_starts(), [0, 37, 73]);
 }
 
 #[test]
@@ -121,7 +114,7 @@ fn a_frame_reuses_the_layout_whole() {
         ..Default::default()
     };
     parse_tile_info_frmhdr(&mut hdr, &seqhdr, &mut GetBits::new(&[])).unwrap();
-    assert_eq!(columns(&hdr.tiling.t), [0, 2, 4]);
+    assert_eq!(hdr.tiling.t.col_starts(), [0, 2, 4]);
 
     seqhdr.level = 32;
     let refused = parse_tile_info_frmhdr(&mut hdr, &seqhdr, &mut GetBits::new(&[]));
@@ -146,28 +139,146 @@ fn short_codes() {
 }
 
 #[test]
-fn the_end_is_handed_back_for_a_place_past_it() {
-    let past = Place {
-        byte: 9,
-        used: 3,
-        error: false,
+fn a_frame_by_its_parts_is_the_frame() {
+    let seqhdr = SequenceHeader {
+        max_width: 256,
+        max_height: 128,
+        ..Default::default()
     };
-    let mut gb = GetBits::at_place(&[0xAA], past);
-    assert_eq!(gb.get_bits(0), 0);
+    let mut hdr = FrameHeader {
+        width: 256,
+        height: 128,
+        sb128: 9,
+        ..Default::default()
+    };
+    let (mut sb128, mut t) = (9, TileInfo::default());
+    let mut gb = GetBits::new(&[0x28]);
+    parse_tile_info_frmhdr_parts(
+        FrameType::Key,
+        256,
+        128,
+        &mut sb128,
+        &mut t,
+        &seqhdr,
+        &mut gb,
+    )
+    .unwrap();
+    parse_tile_info_frmhdr(&mut hdr, &seqhdr, &mut GetBits::new(&[0x28])).unwrap();
+    assert_eq!((hdr.sb128, &hdr.tiling.t), (sb128, &t));
+    assert_eq!(
+        (sb128, t.col_starts(), gb.place().used),
+        (0, &[0, 2, 3, 4][..], 5)
+    );
+
+    let given = t.clone();
+    let refused =
+        parse_tile_info_frmhdr_parts(FrameType::Key, 0, 128, &mut sb128, &mut t, &seqhdr, &mut gb);
+    assert_eq!(refused, Err(Error::WrongArguments));
+    assert_eq!((sb128, t, gb.place().used), (0, given, 5));
+}
+
+/// Each field of the header that can make it unusable for a frame.
+#[test]
+fn an_unusable_sequence_header_is_refused() {
+    let mut usable = SequenceHeader {
+        max_width: 256,
+        max_height: 64,
+        ..Default::default()
+    };
+    usable.tiling.present = AdaptiveBoolean::On;
+    usable.tiling.t = layout([0, 0], 256, 64, &[0xC0]).0.unwrap();
+    let read = |seqhdr: &SequenceHeader| {
+        let mut hdr = FrameHeader {
+            width: 192,
+            height: 64,
+            ..Default::default()
+        };
+        let mut gb = GetBits::new(&[0xFF]);
+        let answer = parse_tile_info_frmhdr(&mut hdr, seqhdr, &mut gb);
+        (answer, gb.place())
+    };
+    assert_eq!(read(&usable).0, Ok(()));
+    let wrong: [fn(&mut SequenceHeader); 9] = [
+        |seqhdr| seqhdr.sb128 = 3,
+        |seqhdr| seqhdr.max_width = 0,
+        |seqhdr| seqhdr.max_height = 65_537,
+        |seqhdr| seqhdr.tier = 2,
+        |seqhdr| seqhdr.tiling.t.cols = 65,
+        |seqhdr| seqhdr.tiling.t.rows = 0,
+        |seqhdr| seqhdr.tiling.t.log2_cols = 7,
+        |seqhdr| seqhdr.tiling.t.log2_rows = 255,
+        |seqhdr| seqhdr.tiling.t.col_start_sb[2] = 1025,
+    ];
+    for change in wrong {
+        let mut seqhdr = usable.clone();
+        change(&mut seqhdr);
+        assert_eq!(
+            read(&seqhdr),
+            (Err(Error::WrongArguments), Place::default())
+        );
+    }
+}
+
+#[test]
+fn a_reader_settles_at_the_end() {
     let end = Place {
         byte: 1,
         used: 0,
         error: false,
     };
-    assert_eq!(gb.place(), end);
-    assert_eq!((gb.byte_pos(), gb.remaining_bytes()), (1, 0));
-    assert!(gb.remaining_slice().is_empty());
+    for (byte, used) in [
+        (9, 3),
+        (1, 0),
+        (1, 1),
+        (0, 8),
+        (0, u32::MAX),
+        (usize::MAX, 7),
+    ] {
+        let error = false;
+        let mut gb = GetBits::at_place(&[0xAA], Place { byte, used, error });
+        assert_eq!(gb.place(), end);
+        assert_eq!((gb.byte_pos(), gb.remaining_bytes()), (1, 0));
+        assert!(gb.remaining_slice().is_empty());
+        assert_eq!(gb.get_bits(0), 0);
+        assert_eq!(gb.place(), end);
+    }
+    let inside = Place {
+        byte: 0,
+        used: 7,
+        error: true,
+    };
+    assert_eq!(GetBits::at_place(&[0xAA], inside).place(), inside);
+}
+
+#[test]
+fn starts_of_any_record() {
+    let mut t = TileInfo::default();
+    assert_eq!(
+        (t.col_starts(), t.row_starts(), t.tiles()),
+        (&[0][..], &[0][..], 0)
+    );
+    t.cols = 64;
+    t.rows = 255;
+    assert_eq!(
+        (t.col_starts().len(), t.row_starts().len(), t.tiles()),
+        (65, 65, 64 * 255)
+    );
+}
+
+/// A viewer may import everything: `Result` is still std's.
+#[test]
+fn an_import_of_all_shadows_nothing() {
+    #[allow(unused_imports)]
+    use mubanlig::*;
+    let answer: Result<u8, String> = Ok(1);
+    assert_eq!(answer, Ok(1));
 }
 
 #[test]
 fn rectangles_cover_the_superblocks() {
     let t = layout([0, 0], 256, 128, &[0x28]).0.unwrap();
     let mut out = [7; 13];
+    assert_eq!(t.tiles(), 3);
     tile_rectangles(&t, 0, &mut out).unwrap();
     let area: u32 = out[..12].chunks(4).map(|tile| tile[2] * tile[3]).sum();
     assert_eq!(area, 256 * 128);
