@@ -81,6 +81,7 @@ impl<'a> GetBits<'a> {
     /// Where the reader stands.
     #[inline]
     #[must_use]
+    #[allow(clippy::cast_possible_truncation)] // below 8
     pub fn place(&self) -> Place {
         Place {
             byte: self.position / 8,

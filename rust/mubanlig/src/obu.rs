@@ -5,7 +5,7 @@ use crate::ffi;
 use crate::getbits::GetBits;
 use crate::headers::{FrameHeader, FrameType, SegmentationDataSet, SequenceHeader, TileInfo};
 
-/// Reads the features of 8 segments, or of 16 with the extension. The masks are ORed onto those of `seg`.
+/// Reads the features of 8 segments, or of 16 with the extension. The masks are added to those of `seg`, by OR.
 ///
 /// ```
 /// use mubanlig::{GetBits, SegmentationDataSet, parse_seg_info};
