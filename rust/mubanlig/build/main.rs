@@ -108,16 +108,15 @@ fn take_proved(root: &Path, linked: &Path) -> Result<(), String> {
                 settings::FOLDER
             ));
         }
-        screen.show(&format!(
-            "{} is {} {}",
-            library.display(),
-            if library.exists() {
-                "older than"
-            } else {
-                "not there yet; newest source:"
-            },
-            newest.path.display()
-        ));
+        screen.show(&if library.exists() {
+            format!(
+                "{} is older than {}",
+                library.display(),
+                newest.path.display()
+            )
+        } else {
+            format!("{} is not there yet", library.display())
+        });
         for (name, library) in NAMES.iter().zip(LIBRARIES) {
             prove::staticlib(root, name, &mut screen)?;
             // The time of the sources it was proved from: one that was changed meanwhile is newer.
