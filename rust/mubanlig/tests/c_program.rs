@@ -17,13 +17,16 @@ fn is_there(command: &str) -> bool {
 
 /// The program, unless there is no compiler.
 fn compiled(variable: &str, default: &str, language: [&str; 3]) -> Option<PathBuf> {
-    let compiler = std::env::var(variable).unwrap_or_else(|_| default.to_string());
-    if !is_there(&compiler) {
+    let words = std::env::var(variable).unwrap_or_else(|_| default.to_string());
+    let mut words = words.split_whitespace();
+    let compiler = words.next().unwrap_or(default);
+    if !is_there(compiler) {
         eprintln!("skipped: there is no compiler {compiler}; {variable} may name another");
         return None;
     }
     let program = Path::new(env!("CARGO_TARGET_TMPDIR")).join(format!("calls-{default}"));
-    let run = Command::new(&compiler)
+    let run = Command::new(compiler)
+        .args(words)
         .args(language)
         .args(WARNINGS)
         .arg(format!("-I{FOLDER}/../../include"))
