@@ -2,7 +2,7 @@
 
 use std::collections::VecDeque;
 use std::fs::File;
-use std::io::{self, BufRead, BufReader, Write};
+use std::io::{self, BufRead, BufReader, IsTerminal, Write};
 use std::path::Path;
 use std::process::{Command, Stdio};
 
@@ -21,8 +21,12 @@ impl Screen {
 
     pub fn show(&mut self, line: &str) {
         match &mut self.0 {
-            // A line that can't be shown is no reason to fail.
-            Some(stderr) => drop(stderr.write_all(format!("mubanlig: {line}\n").as_bytes())),
+            Some(stderr) => {
+                // Over cargo's bar, which stands in the last line.
+                let start = if stderr.is_terminal() { "\r\x1b[K" } else { "" };
+                // A line that can't be shown is no reason to fail.
+                drop(stderr.write_all(format!("{start}mubanlig: {line}\n").as_bytes()));
+            }
             None => eprintln!("mubanlig: {line}"),
         }
     }
