@@ -1,22 +1,17 @@
 -- Sizes that fit, and the multiplier. Assumes nothing.
 use mathlib.Core.Path.{_≡_, refl, subst}
 use mathlib.Core.Bool.{Bool, true, false, _&&_}
-use mathlib.Core.Logic.{⊎-elim}
 use mathlib.Core.List.{List}
 use Prim.Native.Nat.{ℕ, zero, suc, _+_, _-_, _*_, _/_, _^_, _≤_, _<_}
 use native.Mathlib.Nat.{mul-le-mul, mul-le-mul-left, lt-of-le-of-lt, le-trans, div-le-of-le-mul, div-mul-le-self}
 use native.Mathlib.Omega.{arith}
-use borrow.Author.Tests.{ltb-false, lt-ltb}
-use lib.Dec.{T, lit<, ltb, eqb}
+use lib.Dec.{T, lit<, eqb}
 use Rattle.codes.specs.Codes.{getUniform}
 use Rattle.codes.proofs.Callers.{uniform-lt}
 use Rattle.getbits.specs.Chain.{pick}
 use Rattle.getbits.proofs.Chain.{picked}
-use Rattle.getbits.proofs.Places.{lt-or-le}
 use Rattle.getbits.specs.declared.Place.{Place}
-use Rattle.tile_layout.specs.Limits.{doublings}
 use Rattle.tile_layout.proofs.Domain.{Pair, pairs}
-use Rattle.tile_layout.proofs.Logs.{double-none}
 use Rattle.superblocks.specs.Counts.{multiplierOf}
 
 -- the product of two numbers of 32 bits fits 64
@@ -36,14 +31,6 @@ pub uniform-fits : (s : List ℕ) (p : Place) (max : ℕ) → max < 2 ^ 32 → g
 unfolding getUniform
 uniform-fits s p zero h = omega arith
 uniform-fits s p (suc max) h = omega (arith, uniform-lt s p (suc max) (omega arith))
-
--- no doubling is left
-pub log-done : (k reach tgt : ℕ) → k ≤ 20 → (ltb k 20 && ltb reach tgt) ≡ false → doublings (20 - k) reach tgt ≡ 0
-unfolding doublings
-log-done k reach tgt h e =
-    ⊎-elim (λ l. double-none (20 - k) reach tgt (ltb-false reach tgt (rw (lt-ltb k 20 l) at e)))
-    (λ g. let q : 20 - k ≡ 0 = omega arith in rw q refl)
-    (lt-or-le k 20)
 
 -- a legal pair has its multiplier
 pub legal : (f q m : ℕ) → Pair f q m → multiplierOf f q ≡ m

@@ -124,18 +124,25 @@ fn entry(i: u8) -> usize
     if i < 64 { i as usize } else { 64 }
 }
 
-// The least k, at most 20, with sz * 2 ^ k at least tgt.
+// The least k with sz * 2 ^ k at least tgt.
 fn tile_log2(sz: u32, tgt: u32) -> u8
+    requires { ⌜ (tgt ≤ sz * 1048576) × (tgt ≤ 1048576) ⌝ }
     ensures { λ r. ⌜ r ≡ tileLog2 sz tgt ⌝ }
 {
-    let goal = wide(tgt);
-    let mut reach = wide(sz);
+    let mut reach = sz;
     let mut k: u8 = 0;
-    while (k < 20) & (reach < goal) {
+    while reach < tgt {
         reach *= 2;
         k += 1;
     }
     k
+}
+
+// A size counts as 1 at least, and a target as 2 ^ 20 at most.
+fn held_log2(sz: u32, tgt: u32) -> u8
+    ensures { λ r. ⌜ r ≡ tileLog2 (max 1 sz) (min tgt 1048576) ⌝ }
+{
+    tile_log2(umax(1, sz), umin(tgt, 1_048_576))
 }
 
 // The logarithm of a number of tiles, rounded up.
@@ -281,9 +288,9 @@ impl FrameSb {
 
     // The least logarithm by which tiles of at most this size reach `all`.
     pub fn log2_to(self, all: FrameSb) -> u8
-        ensures { λ r. ⌜ r ≡ tileLog2 (self .0) (all .0) ⌝ }
+        ensures { λ r. ⌜ r ≡ tileLog2 (max 1 (self .0)) (min (all .0) 1048576) ⌝ }
     {
-        tile_log2(self.0, all.0)
+        held_log2(self.0, all.0)
     }
 
     // The largest logarithm, for at most 64 tiles.
@@ -307,9 +314,9 @@ impl FrameSb {
 impl AreaSb {
     // The least logarithm by which tiles of at most this area cover `all`.
     pub fn log2_to(self, all: AreaSb) -> u8
-        ensures { λ r. ⌜ r ≡ tileLog2 (self .0) (all .0) ⌝ }
+        ensures { λ r. ⌜ r ≡ tileLog2 (max 1 (self .0)) (min (all .0) 1048576) ⌝ }
     {
-        tile_log2(self.0, all.0)
+        held_log2(self.0, all.0)
     }
 
     // The most superblocks that a row may have, beside a column of `widest_tile`, by the area divided by 2 ^ log2; 1 at least.

@@ -27,4 +27,11 @@ returns-2 c =
     (b, e ∙ sym (left _ _ _ t), ap (_%_ (a .fsb .0)) e ∙ sym (left _ _ _ t))
 
 pub even-split-spec : {M : Type 1} → statement M
-even-split-spec = tie.close (tie.spec (λ c κs. search needs) (λ c. search needs) returns (λ c. search needs) returns-2)
+even-split-spec =
+    tie.close
+    (tie.spec
+    (λ c κs. search needs)
+    (λ c. search needs)
+    returns
+    (λ c. search needs)
+    returns-2)

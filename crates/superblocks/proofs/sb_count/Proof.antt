@@ -13,4 +13,14 @@ unfolding superblocks
 returns c = cc
 
 pub sb-count-spec : {M : Type 1} → statement M
-sb-count-spec = tie.close (tie.spec (λ c κs. search needs) (λ c κs. search needs) (λ c κs. search needs) (λ c. search needs) (λ c. search needs) (λ c. search needs) cast-result returns)
+sb-count-spec =
+    tie.close
+    (tie.spec
+    (λ c κs. search needs)
+    (λ c κs. search needs)
+    (λ c κs. search needs)
+    (λ c. search needs)
+    (λ c. search needs)
+    (λ c. search needs)
+    cast-result
+    returns)

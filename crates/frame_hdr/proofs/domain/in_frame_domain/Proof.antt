@@ -15,4 +15,10 @@ returns c =
     rw (c .is-usable .ensures, y .is-extent2 .ensures, x .is-extent .ensures, back (h .height) (y .before .struct-told2 .given .1 .1 .0 .1), back (h .width) (x .before .struct-told .given .1 .0 .1)) refl
 
 pub in-frame-domain-spec : {M : Type 1} → statement M
-in-frame-domain-spec = tie.close (tie.spec (λ c κs. search needs) (λ c κs. search needs) (λ c κs. search needs) returns)
+in-frame-domain-spec =
+    tie.close
+    (tie.spec
+    (λ c κs. search needs)
+    (λ c κs. search needs)
+    (λ c κs. search needs)
+    returns)

@@ -51,4 +51,17 @@ returns c =
     l .inv .1 ∙ ap (λ (n : ℕ). over (tabulate (λ j. 2 * getD (s .args .starts .0) j 0) 0 n) (s .args .starts .0)) q
 
 pub doubled-starts-spec : {M : Type 1} → statement M
-doubled-starts-spec = tie.close (tie.spec Inv-loop μ-loop (λ c κs. search needs) loop-holds (λ c κs. search needs) (λ c κs. search needs) (λ c κs. search needs) add-i loop-less loop-again returns)
+doubled-starts-spec =
+    tie.close
+    (tie.spec
+    Inv-loop
+    μ-loop
+    (λ c κs. search needs)
+    loop-holds
+    (λ c κs. search needs)
+    (λ c κs. search needs)
+    (λ c κs. search needs)
+    add-i
+    loop-less
+    loop-again
+    returns)

@@ -52,4 +52,16 @@ returns-3 c =
     (sym (left _ _ _ (not-off (o .before)) ∙ left _ _ _ (c .before .if2 .left)))
 
 pub reuse-allowed-spec : {M : Type 1} → statement M
-reuse-allowed-spec = tie.close (tie.spec (λ c κs. search needs) returns (λ c κs. search needs) (λ c κs. search needs) (λ c κs. search needs) (λ c κs. search needs) (λ c κs. search needs) returns-2 same-counts-requires returns-3)
+reuse-allowed-spec =
+    tie.close
+    (tie.spec
+    (λ c κs. search needs)
+    returns
+    (λ c κs. search needs)
+    (λ c κs. search needs)
+    (λ c κs. search needs)
+    (λ c κs. search needs)
+    (λ c κs. search needs)
+    returns-2
+    same-counts-requires
+    returns-3)

@@ -41,4 +41,14 @@ returns c =
     rw (c .reused-starts2 .ensures, c .before .before .reused-starts .ensures, r .of3 .ensures, r .before .of2 .ensures, c .before .frame-count2 .ensures, w .frame-count .ensures, code o, multiplied o) refl
 
 pub reused-info-spec : {M : Type 1} → statement M
-reused-info-spec = tie.close (tie.spec (λ c κs. search needs) (λ c κs. search needs) (λ c κs. search needs) (λ c κs. search needs) reused-starts-requires (λ c κs. search needs) reused-starts-requires-2 returns)
+reused-info-spec =
+    tie.close
+    (tie.spec
+    (λ c κs. search needs)
+    (λ c κs. search needs)
+    (λ c κs. search needs)
+    (λ c κs. search needs)
+    reused-starts-requires
+    (λ c κs. search needs)
+    reused-starts-requires-2
+    returns)

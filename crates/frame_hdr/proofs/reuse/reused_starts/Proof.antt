@@ -41,4 +41,12 @@ returns-2 c =
     (c .put .ensures ∙ rw (i, v, d .doubled-starts .ensures) (closed (λ j. 2 * getD starts j 0) starts (s .args .tiles) (s .args .closing .0) (omega (arith, s .pre .0, given-length s))))
 
 pub reused-starts-spec : {M : Type 1} → statement M
-reused-starts-spec = tie.close (tie.spec (λ c κs. search needs) (λ c κs. search needs) returns doubled-starts-requires (λ c κs. search needs) returns-2)
+reused-starts-spec =
+    tie.close
+    (tie.spec
+    (λ c κs. search needs)
+    (λ c κs. search needs)
+    returns
+    doubled-starts-requires
+    (λ c κs. search needs)
+    returns-2)

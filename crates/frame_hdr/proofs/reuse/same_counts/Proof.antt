@@ -27,4 +27,13 @@ returns c =
     rw (c .same-number2 .ensures, c .before .same-number .ensures, c .before .before .seq-count2 .ensures, y .before .before .seq-count .ensures, y .not-below-02 .ensures, x .not-below-0 .ensures, across x, down y, code (x .before .before)) refl
 
 pub same-counts-spec : {M : Type 1} → statement M
-same-counts-spec = tie.close (tie.spec (λ c κs. search needs) (λ c κs. search needs) (λ c κs. search needs) (λ c κs. search needs) (λ c κs. search needs) (λ c κs. search needs) returns)
+same-counts-spec =
+    tie.close
+    (tie.spec
+    (λ c κs. search needs)
+    (λ c κs. search needs)
+    (λ c κs. search needs)
+    (λ c κs. search needs)
+    (λ c κs. search needs)
+    (λ c κs. search needs)
+    returns)

@@ -16,4 +16,12 @@ returns-2 c =
     c .umax .ensures ∙ ap (λ (x : ℕ). max 1 (a .self .0 / x / a .widest-tile .0)) (k .power .ensures .0)
 
 pub max-height-spec : {M : Type 1} → statement M
-max-height-spec = tie.close (tie.spec returns (λ c κs. search needs) (λ c. search needs) (λ c. search needs) (λ c κs. search needs) returns-2)
+max-height-spec =
+    tie.close
+    (tie.spec
+    returns
+    (λ c κs. search needs)
+    (λ c. search needs)
+    (λ c. search needs)
+    (λ c κs. search needs)
+    returns-2)

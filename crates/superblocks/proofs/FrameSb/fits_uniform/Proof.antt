@@ -15,4 +15,15 @@ unfolding fitsUniform
 returns c = rw (c .wide2 .ensures, c .before .wide .ensures, c .before .before .power .ensures .0)
 
 pub fits-uniform-spec : {M : Type 1} → statement M
-fits-uniform-spec = tie.close (tie.spec (λ c κs. search needs) (λ c κs. search needs) (λ c κs. search needs) (λ c. search needs) (λ c. search needs) (λ c. search needs) (λ c. search needs) mul-result returns)
+fits-uniform-spec =
+    tie.close
+    (tie.spec
+    (λ c κs. search needs)
+    (λ c κs. search needs)
+    (λ c κs. search needs)
+    (λ c. search needs)
+    (λ c. search needs)
+    (λ c. search needs)
+    (λ c. search needs)
+    mul-result
+    returns)

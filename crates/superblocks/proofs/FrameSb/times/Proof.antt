@@ -13,4 +13,11 @@ returns : tie.Need-returns
 returns c = c .cut .ensures ∙ ap₂ (λ (x y : ℕ). min (x * y) 4294967295) (c .before .before .wide .ensures) (c .before .wide2 .ensures)
 
 pub times-spec : {M : Type 1} → statement M
-times-spec = tie.close (tie.spec (λ c κs. search needs) (λ c κs. search needs) mul-cut (λ c κs. search needs) returns)
+times-spec =
+    tie.close
+    (tie.spec
+    (λ c κs. search needs)
+    (λ c κs. search needs)
+    mul-cut
+    (λ c κs. search needs)
+    returns)

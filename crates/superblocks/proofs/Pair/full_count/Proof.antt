@@ -11,4 +11,14 @@ returns : tie.Need-returns
 returns c = cc
 
 pub full-count-spec : {M : Type 1} → statement M
-full-count-spec = tie.close (tie.spec (λ c κs. search needs) (λ c. search needs) (λ c κs. search needs) (λ c κs. search needs) (λ c. search needs) cast-umax (λ c κs. search needs) returns)
+full-count-spec =
+    tie.close
+    (tie.spec
+    (λ c κs. search needs)
+    (λ c. search needs)
+    (λ c κs. search needs)
+    (λ c κs. search needs)
+    (λ c. search needs)
+    cast-umax
+    (λ c κs. search needs)
+    returns)

@@ -12,4 +12,10 @@ returns c =
     rw (c .is-pair .ensures) (rw (k .is-size2 .ensures) (rw (k .before .is-size .ensures) refl))
 
 pub in-domain-spec : {M : Type 1} → statement M
-in-domain-spec = tie.close (tie.spec (λ c κs. search needs) (λ c κs. search needs) (λ c κs. search needs) returns)
+in-domain-spec =
+    tie.close
+    (tie.spec
+    (λ c κs. search needs)
+    (λ c κs. search needs)
+    (λ c κs. search needs)
+    returns)

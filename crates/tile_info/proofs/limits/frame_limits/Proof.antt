@@ -3,7 +3,7 @@ use mathlib.Core.Path.{_≡_, _∙_, ap, ap₂}
 use Prim.Native.Nat.{ℕ, min, max}
 use Rattle.tile_layout.specs.Limits.{superblocks, sbw, sbh, tileLog2, minLog2Cols, maxLog2Cols, maxLog2Rows, minLog2Tiles}
 use Rattle.tile_info.specs.Inner.{Coded}
-use Rattle.tile_info.proofs.Coded.{frame-code, whole}
+use Rattle.tile_info.proofs.Coded.{frame-code, whole, held-width, held-area}
 use borrow.Author.Needs.{needs}
 use Rattle.tile_info.proofs.limits.frame_limits.Statement.{statement}
 use Rattle.tile_info.proofs.limits.frame_limits.Tie as tie
@@ -26,7 +26,7 @@ returns c =
     let across : w .frame-count .result .0 ≡ sbw (s .args .a) = w .frame-count .ensures ∙ ap (superblocks (s .args .a .width)) code in
     let down : h .frame-count2 .result .0 ≡ sbh (s .args .a) = h .frame-count2 .ensures ∙ ap (superblocks (s .args .a .height)) code in
     let wide = limit .max-tile-width-sb .ensures in
-    let min-cols = least .log2-to .ensures ∙ ap₂ tileLog2 wide across in
+    let min-cols = least .log2-to .ensures ∙ held-width (s .args .a) (s .pre) wide across in
     record {
       coded = pair;
       across = across;
@@ -37,8 +37,22 @@ returns c =
       max-rows = rows .max-log22 .ensures ∙ ap (λ (x : ℕ). tileLog2 1 (min x 64)) down;
       min-tiles =
           c .umax .ensures
-          ∙ ap₂ max (tiles .log2-to2 .ensures ∙ ap₂ tileLog2 (most .max-tile-area-sb .ensures) (area .times .ensures ∙ whole (s .args .a) (s .pre) across down)) min-cols;
+          ∙ ap₂ max (tiles .log2-to2 .ensures ∙ held-area (s .args .a) (s .pre) (most .max-tile-area-sb .ensures) (area .times .ensures ∙ whole (s .args .a) (s .pre) across down)) min-cols;
     }
 
 pub frame-limits-spec : {M : Type 1} → statement M
-frame-limits-spec = tie.close (tie.spec (λ c κs. search needs) (λ c κs. search needs) (λ c κs. search needs) (λ c κs. search needs) (λ c κs. search needs) (λ c κs. search needs) (λ c κs. search needs) (λ c κs. search needs) (λ c κs. search needs) (λ c κs. search needs) (λ c κs. search needs) returns)
+frame-limits-spec =
+    tie.close
+    (tie.spec
+    (λ c κs. search needs)
+    (λ c κs. search needs)
+    (λ c κs. search needs)
+    (λ c κs. search needs)
+    (λ c κs. search needs)
+    (λ c κs. search needs)
+    (λ c κs. search needs)
+    (λ c κs. search needs)
+    (λ c κs. search needs)
+    (λ c κs. search needs)
+    (λ c κs. search needs)
+    returns)

@@ -31,4 +31,15 @@ returns c =
     ∙ rw (c .before .power .ensures .0, e, z .one-if .ensures .0, y .one-if2 .ensures .0, x .one-if3 .ensures .0, frame-code (s .pre .0) (s .pre .1)) refl
 
 pub max-tile-area-sb-spec : {M : Type 1} → statement M
-max-tile-area-sb-spec = tie.close (tie.spec (λ c κs. search needs) (λ c κs. search needs) (λ c. search needs) (λ c κs. search needs) (λ c. search needs) (λ c κs. search needs) mul-area-limit (λ c κs. search needs) returns)
+max-tile-area-sb-spec =
+    tie.close
+    (tie.spec
+    (λ c κs. search needs)
+    (λ c κs. search needs)
+    (λ c. search needs)
+    (λ c κs. search needs)
+    (λ c. search needs)
+    (λ c κs. search needs)
+    mul-area-limit
+    (λ c κs. search needs)
+    returns)

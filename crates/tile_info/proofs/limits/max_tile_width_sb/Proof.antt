@@ -27,4 +27,13 @@ returns c =
     c .width-limit .ensures ∙ rw (c .before .power .ensures .0, e, y .one-if .ensures .0, x .one-if2 .ensures .0, frame-code (s .pre .0) (s .pre .1)) refl
 
 pub max-tile-width-sb-spec : {M : Type 1} → statement M
-max-tile-width-sb-spec = tie.close (tie.spec (λ c κs. search needs) (λ c κs. search needs) (λ c. search needs) (λ c κs. search needs) mul-width-limit (λ c κs. search needs) returns)
+max-tile-width-sb-spec =
+    tie.close
+    (tie.spec
+    (λ c κs. search needs)
+    (λ c κs. search needs)
+    (λ c. search needs)
+    (λ c κs. search needs)
+    mul-width-limit
+    (λ c κs. search needs)
+    returns)

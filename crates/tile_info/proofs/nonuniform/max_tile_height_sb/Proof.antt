@@ -44,4 +44,12 @@ returns-2 c =
     ∙ sym (left (eqb (minLog2Tiles (s .args .a)) 0) _ _ (ne-eqb _ 0 (λ z. c .before .before .if1 .left (s .pre .1 .min-tiles ∙ z)))))
 
 pub max-tile-height-sb-spec : {M : Type 1} → statement M
-max-tile-height-sb-spec = tie.close (tie.spec (λ c κs. search needs) (λ c κs. search needs) returns add-max-height (λ c κs. search needs) returns-2)
+max-tile-height-sb-spec =
+    tie.close
+    (tie.spec
+    (λ c κs. search needs)
+    (λ c κs. search needs)
+    returns
+    add-max-height
+    (λ c κs. search needs)
+    returns-2)

@@ -52,4 +52,22 @@ returns-2 : tie.Need-returns-2 Inv-loop μ-loop
 returns-2 c = all-done _ _ _ _ _ _ (c .before .before .loop .inv) (ltb-false _ _ (sym (c .before .below .ensures) ∙ c .if1 .left))
 
 pub read-sizes-spec : {M : Type 1} → statement M
-read-sizes-spec = tie.close (tie.spec Inv-loop μ-loop (λ c κs. search needs) (λ c κs. search needs) loop-holds (λ c κs. search needs) (λ c κs. search needs) (λ c κs. search needs) (λ c κs. search needs) (λ c κs. search needs) (λ c κs. search needs) add-tiles loop-less loop-again returns returns-2)
+read-sizes-spec =
+    tie.close
+    (tie.spec
+    Inv-loop
+    μ-loop
+    (λ c κs. search needs)
+    (λ c κs. search needs)
+    loop-holds
+    (λ c κs. search needs)
+    (λ c κs. search needs)
+    (λ c κs. search needs)
+    (λ c κs. search needs)
+    (λ c κs. search needs)
+    (λ c κs. search needs)
+    add-tiles
+    loop-less
+    loop-again
+    returns
+    returns-2)

@@ -58,4 +58,12 @@ returns c =
     (omega (arith, c .number .ensures, e .1, few s), c .before .fill .ensures ∙ simp (e .0, e .1, e .2, s .pre .1 .1 .2, multiplied (s .pre .0) (s .pre .1 .0)))
 
 pub uniform-starts-spec : {M : Type 1} → statement M
-uniform-starts-spec = tie.close (tie.spec (λ c κs. search needs) (λ c κs. search needs) (λ c κs. search needs) fill-requires (λ c κs. search needs) returns)
+uniform-starts-spec =
+    tie.close
+    (tie.spec
+    (λ c κs. search needs)
+    (λ c κs. search needs)
+    (λ c κs. search needs)
+    fill-requires
+    (λ c κs. search needs)
+    returns)
