@@ -124,7 +124,11 @@ fn wide_byte(x: u8) -> i64 {
 
 // A count of bits or bytes; no case has one from 2^31 on.
 fn count(n: usize) -> i64 {
-    if n < 0x8000_0000 { n as i64 } else { 0x8000_0000 }
+    if n < 0x8000_0000 {
+        n as i64
+    } else {
+        0x8000_0000
+    }
 }
 
 // The number at i, at most `most`.
@@ -489,7 +493,13 @@ fn replay_segments(
     out: &mut [i64],
 ) -> u32 {
     let mut delta_q = deltas_of(args);
-    let mut masks = [word_at(args, 16), word_at(args, 17), word_at(args, 18), 0, 0];
+    let mut masks = [
+        word_at(args, 16),
+        word_at(args, 17),
+        word_at(args, 18),
+        0,
+        0,
+    ];
     let answer = lend_segments(
         s,
         &mut *position,
@@ -542,13 +552,7 @@ fn replay_rectangles(args: &[u32], out: &mut [i64]) -> usize
 }
 
 // The value of a reading.
-fn replay_reading(
-    kind: u32,
-    s: &[u8],
-    position: &mut usize,
-    error: &mut u8,
-    args: &[u32],
-) -> i64 {
+fn replay_reading(kind: u32, s: &[u8], position: &mut usize, error: &mut u8, args: &[u32]) -> i64 {
     let p = &mut *position;
     let e = &mut *error;
     match kind {
@@ -568,13 +572,7 @@ fn replay_reading(
             at(args, 1),
             signed_at(args, 2),
         ) as i64,
-        9 => wide(mubanlig_get_bits_subexp(
-            s,
-            &mut *p,
-            &mut *e,
-            signed_at(args, 0),
-            at(args, 1),
-        )),
+        9 => wide(mubanlig_get_bits_subexp(s, &mut *p, &mut *e, signed_at(args, 0), at(args, 1))),
         _ => {
             mubanlig_bytealign(s, &mut *p);
             0
