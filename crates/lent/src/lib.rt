@@ -1,7 +1,7 @@
 // What a caller of the C interface lends: flags in bytes, and a reader's place as a position in bits and an error.
 ghost use mathlib.Core.Path.{_≡_};
 ghost use mathlib.Core.List.{[], _∷_};
-ghost use Rattle.lent.specs.Lent.{isSet, placeOf, positionOf, errorAfter, lentPlace};
+ghost use Rattle.lent.specs.Lent.{isSet, placeOf, positionOf, lentPlace};
 use getbits::Place;
 
 pub fn is_set(flag: u8) -> bool
@@ -24,15 +24,6 @@ pub fn position_of(p: Place) -> usize
     ensures { λ r. ⌜ r ≡ positionOf p ⌝ }
 {
     std::num::wrapping_add_usize(p.byte % 0x2000_0000_0000_0000 * 8, p.used as usize)
-}
-
-pub fn error_after(e: bool, error: u8) -> u8
-    ensures { λ r. ⌜ r ≡ errorAfter e error ⌝ }
-{
-    if is_set(error) {
-        return error;
-    }
-    if e { 1 } else { 0 }
 }
 
 // The place is handed back: the error is stored only where it is newly set.
