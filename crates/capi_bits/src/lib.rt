@@ -1,7 +1,7 @@
 // The readings for Rust and C: numbers and slices only. A place is lent as the bits before it and the error.
 ghost use mathlib.Core.List.{[], _∷_};
 ghost use mathlib.Core.Path.{_≡_};
-ghost use Prim.Native.Nat.{_-_, _*_, _^_, _<_, _≤_};
+ghost use Prim.Native.Nat.{_-_, _^_, _<_, _≤_};
 ghost use lib.IntN.{pos};
 ghost use lib.ListN.{length};
 ghost use Rattle.codes.specs.Codes.{bitLength, getVlc, getUniform, getRefUniform, getUleb128, getGolomb, getBitsSubexpU, getBitsSubexp};
@@ -16,6 +16,7 @@ use codes::get_uleb128;
 use codes::get_uniform;
 use codes::get_vlc;
 use getbits::Number;
+use getbits::Place;
 use getbits::Signed;
 use getbits::byte_pos;
 use getbits::bytealign;
@@ -37,11 +38,11 @@ pub extern "C" fn mubanlig_bits_interface_2() -> u32
 }
 
 // A reading is handed back: the place is stored, and the number is the answer.
-fn hand_back(r: Number, position: &mut usize, error: &mut u8) -> u32
-    ensures { λ v. ⌜ (v ∷ now (position .exit) ∷ now (error .exit) ∷ []) ≡ lentNumber r (now (error .entry)) ⌝ }
+fn hand_back(read: Number, position: &mut usize, error: &mut u8) -> u32
+    ensures { λ v. ⌜ (v ∷ now (position .exit) ∷ now (error .exit) ∷ []) ≡ lentNumber read (now (error .entry)) ⌝ }
 {
-    put_place(r.next, &mut *position, &mut *error);
-    r.value
+    put_place(read.next, &mut *position, &mut *error);
+    read.value
 }
 
 // The same of a signed number.
@@ -211,23 +212,30 @@ pub extern "C" fn mubanlig_get_bits_subexp(
     hand_back_signed(r, &mut *position, &mut *error)
 }
 
+// The place of a position, for what has nothing to do with the error.
+fn place_at(position: usize) -> Place
+    ensures { λ r. ⌜ r ≡ placeOf position 0 ⌝ }
+{
+    place_of(position, 0)
+}
+
 #[no_mangle]
 pub extern "C" fn mubanlig_bytealign(s: &[u8], position: &mut usize)
     ensures { λ _. ⌜ now (position .exit) ≡ positionOf (byteAlign (now (s .entry)) (placeOf (now (position .entry)) 0)) ⌝ }
 {
-    *position = position_of(bytealign(s, place_of(*position, 0)));
+    *position = position_of(bytealign(s, place_at(*position)));
 }
 
 #[no_mangle]
 pub extern "C" fn mubanlig_byte_pos(s: &[u8], position: usize) -> usize
     ensures { λ r. ⌜ r ≡ bytePos (now (s .entry)) (placeOf position 0) ⌝ }
 {
-    byte_pos(s, place_of(position, 0))
+    byte_pos(s, place_at(position))
 }
 
 #[no_mangle]
 pub extern "C" fn mubanlig_remaining_bytes(s: &[u8], position: usize) -> usize
     ensures { λ r. ⌜ r ≡ length (now (s .entry)) - bytePos (now (s .entry)) (placeOf position 0) ⌝ }
 {
-    remaining_bytes(s, place_of(position, 0))
+    remaining_bytes(s, place_at(position))
 }

@@ -6,7 +6,7 @@ use Rattle.capi_bits.proofs.mubanlig_bytealign.Statement.{statement}
 use Rattle.capi_bits.proofs.mubanlig_bytealign.Tie as tie
 
 returns : tie.Need-returns
-returns c = c .position-of .ensures ∙ ap positionOf (rw (c .before .before .place-of .ensures) at (c .before .bytealign .ensures))
+returns c = c .position-of .ensures ∙ ap positionOf (rw (c .before .before .place-at .ensures) at (c .before .bytealign .ensures))
 
 pub mubanlig-bytealign-spec : {M : Type 1} → statement M
 mubanlig-bytealign-spec = tie.close (tie.spec (λ c κs. search needs) (λ c κs. search needs) (λ c κs. search needs) returns)

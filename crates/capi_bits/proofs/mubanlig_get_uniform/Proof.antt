@@ -1,11 +1,10 @@
 -- `capi_bits::mubanlig_get_uniform` meets its contract. Assumes nothing.
-use mathlib.Core.Path.{_≡_, refl, ap, _∙_}
-use Prim.Native.Nat.{ℕ, _+_, _*_, _-_, _^_, _≤_, _<_}
+use mathlib.Core.Path.{_≡_, ap, _∙_}
+use Prim.Native.Nat.{ℕ, _^_, _≤_, _<_}
 use native.Mathlib.Omega.{arith}
 use borrow.Author.Needs.{needs}
 use borrow.Author.Tests.{leb-true, ltb-true}
 use lib.Dec.{leb, ltb}
-use lib.ListN.{length}
 use Rattle.codes.specs.Codes.{bitLength}
 use Rattle.getbits.proofs.Chain.{both}
 use Rattle.getbits.specs.Bits.{lookAt}

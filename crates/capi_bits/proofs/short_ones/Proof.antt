@@ -1,9 +1,8 @@
 -- `capi_bits::short_ones` meets its contract. Assumes nothing.
-use mathlib.Core.Path.{_≡_, refl, sym, _∙_}
-use Prim.Native.Nat.{ℕ, _*_, _-_, _%_, _^_, _<_}
+use mathlib.Core.Path.{_≡_, refl}
+use Prim.Native.Nat.{_*_, _%_, _^_, _<_}
 use native.Mathlib.Omega.{arith}
 use Rattle.codes.proofs.Callers.{length-is}
-use Rattle.codes.specs.Codes.{bitLength}
 use Rattle.getbits.proofs.Fields.{shl-one}
 use Rattle.capi_bits.proofs.short_ones.Statement.{statement}
 use Rattle.capi_bits.proofs.short_ones.Tie as tie
