@@ -3,7 +3,6 @@ use mathlib.Core.List.{List, [], _∷_, _++_}
 use Prim.Native.Nat.{ℕ}
 use lib.ListN.{take}
 use Rattle.answers.specs.Numbers.{numberOf, isRefusal}
-use Rattle.frame_hdr.specs.declared.FrameHeader.{FrameHeader}
 use Rattle.frame_hdr.specs.declared.FrameRead.{FrameRead}
 use Rattle.getbits.specs.Chain.{pick}
 use Rattle.getbits.specs.declared.Place.{Place}

@@ -8,12 +8,15 @@ use answers::is_refusal;
 use answers::number;
 use flat_hdr::put_seq_hdr;
 use getbits::Place;
+use lent::position_of;
 use libc::STDIN_FILENO;
 use libc::STDOUT_FILENO;
+use program::report_written;
 use seq_hdr::SeqRead;
 use seq_hdr::parse_seq_hdr;
 use seq_record::SequenceHeader;
 use seq_record::no_seq_hdr;
+use tile_layout::TileInfo;
 
 fn is_request(s: &[u8]) -> bool
     ensures { λ r. ⌜ r ≡ isRequest (now (s .entry)) ⌝ }
@@ -46,6 +49,11 @@ fn request(s: &[u8]) -> SeqRead
 
 fn print(text: &[u8]) {
     io::write_all(STDOUT_FILENO, text);
+}
+
+// The first bytes of the output: where they can't be written, it is said.
+fn print_first(text: &[u8]) {
+    report_written(io::write_all(STDOUT_FILENO, text));
 }
 
 fn print_number(n: u64) {
@@ -257,21 +265,52 @@ fn print_residual(flat: &[i64]) {
     );
 }
 
-fn print_tiling(flat: &[i64]) {
-    print_fields(b"tiling.present\ntiling.t.uniform\n", flat, 144);
+fn print_start_sb(starts: &[u16], i: usize) {
+    if i < starts.len() {
+        print_number(starts[i] as u64);
+    }
+}
+
+fn print_blank_and_start_sb(starts: &[u16], i: usize) {
+    print(b" ");
+    print_start_sb(starts, i);
+}
+
+// All of the starts.
+fn print_starts(starts: &[u16]) {
+    print_start_sb(starts, 0);
+    for i in 1..65 {
+        print_blank_and_start_sb(starts, i);
+    }
+}
+
+fn print_line(name: &[u8], starts: [u16; 65]) {
+    print(name);
+    print_starts(&starts);
+    print(b"\n");
+}
+
+fn print_layout(t: TileInfo) {
+    let info = [
+        t.uniform as i64,
+        t.min_log2_cols as i64,
+        t.max_log2_cols as i64,
+        t.log2_cols as i64,
+        t.cols as i64,
+        t.min_log2_rows as i64,
+        t.max_log2_rows as i64,
+        t.log2_rows as i64,
+        t.rows as i64,
+    ];
     print_fields(
-        b"tiling.t.min_log2_cols\ntiling.t.max_log2_cols\ntiling.t.log2_cols\ntiling.t.cols\n",
-        flat,
-        146,
+        b"tiling.t.uniform\ntiling.t.min_log2_cols\ntiling.t.max_log2_cols\ntiling.t.log2_cols\ntiling.t.cols\ntiling.t.min_log2_rows\ntiling.t.max_log2_rows\ntiling.t.log2_rows\ntiling.t.rows\n",
+        &info,
+        0,
     );
-    print_fields(
-        b"tiling.t.min_log2_rows\ntiling.t.max_log2_rows\ntiling.t.log2_rows\ntiling.t.rows\n",
-        flat,
-        150,
-    );
-    print_list(b"tiling.t.col_start_sb", flat, 154, 65);
-    print_list(b"tiling.t.row_start_sb", flat, 219, 65);
-    print_fields(b"film_grain_present\n", flat, 284);
+    let col_start_sb = t.col_start_sb;
+    let row_start_sb = t.row_start_sb;
+    print_line(b"tiling.t.col_start_sb ", col_start_sb);
+    print_line(b"tiling.t.row_start_sb ", row_start_sb);
 }
 
 // The fields in the order of the Rust's declaration.
@@ -282,27 +321,21 @@ fn print_header(hdr: SequenceHeader) {
     print_blocks(&flat);
     print_inter(&flat);
     print_residual(&flat);
-    print_tiling(&flat);
-}
-
-// The bits before a place of an input.
-fn bits_used(p: Place) -> u64 {
-    if p.byte < 65537 {
-        if p.used < 8 {
-            return 8 * (p.byte as u64) + p.used as u64;
-        }
-    }
-    0
+    print_fields(b"tiling.present\n", &flat, 144);
+    let tiling = hdr.tiling;
+    let t = tiling.t;
+    print_layout(t);
+    print_fields(b"film_grain_present\n", &[hdr.film_grain_present as i64], 0);
 }
 
 fn print_place(p: Place) {
-    print_next(bits_used(p));
+    print_next(position_of(p) as u64);
     print_next(p.error as u64);
     print(b"\n");
 }
 
 fn print_refusal(n: u32, p: Place) {
-    print(b"no");
+    print_first(b"no");
     print_next(n as u64);
     if n == 4 {
         print(b"\n");
@@ -321,7 +354,7 @@ fn main() {
         print_refusal(number(answer), next);
     } else {
         let hdr = r.hdr;
-        print(b"ok");
+        print_first(b"ok");
         print_place(next);
         print_header(hdr);
     }

@@ -4,13 +4,12 @@ use mathlib.Core.Bool.{true}
 use Prim.Native.Nat.{suc, _+_, _^_, _<_}
 use native.Mathlib.Nat.{not-suc-le-zero, lt-of-lt-of-le, lt-of-le-of-lt}
 use native.Mathlib.Omega.{arith}
-use borrow.Author.Needs.{needs}
 use borrow.Author.Tests.{ltb-true, le-ltb}
 use lib.Dec.{lit<, lit≤}
 use lib.IntN.{ℤ, pos, negsuc, natAbs, _-ℤ_}
 use lib.Signed.{ltZ, mag, natAbs-le}
 use mir.Syntax.{w64}
-use mir.Val.{Fits, SFits, toZ, ofZ}
+use mir.Val.{SFits, toZ, ofZ}
 use mir.Facts.{toZ-ofZ}
 use Rattle.getbits.proofs.Widths.{not-negative}
 use Rattle.text.proofs.magnitude.Statement.{statement}

@@ -1,7 +1,6 @@
 -- `text::put_line` meets its contract. Assumes nothing.
-use mathlib.Core.List.{[], _∷_, append-assoc}
+use mathlib.Core.List.{append-assoc}
 use borrow.Author.Needs.{needs}
-use Rattle.text.specs.Text.{newline}
 use Rattle.text.proofs.Puts.{also}
 use Rattle.text.proofs.put_line.Statement.{statement}
 use Rattle.text.proofs.put_line.Tie as tie
