@@ -1,2 +1,2 @@
-pub mod Places
-pub mod Outcomes
+pub mod Calls
+pub mod Promises

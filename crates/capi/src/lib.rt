@@ -1,25 +1,20 @@
-// The functions for Rust and C: numbers and slices only.
+// The functions for Rust and C over records: numbers and slices only.
+ghost use mathlib.Core.Bool.{true, false, _&&_};
 ghost use mathlib.Core.List.{[], _∷_};
 ghost use mathlib.Core.Path.{_≡_};
-ghost use Prim.Native.Nat.{_-_};
-ghost use lib.IntN.{pos};
 ghost use lib.ListN.{length};
 ghost use Rattle.answers.specs.Numbers.{numberOf};
-ghost use Rattle.codes.specs.Codes.{getVlc, getUniform, getRefUniform, getUleb128, getGolomb, getBitsSubexpU, getBitsSubexp};
-ghost use Rattle.flat.specs.Layout.{tileInfoOf};
-ghost use Rattle.getbits.specs.Bits.{getBit, getBits, getSbits, bytePos, byteAlign};
+ghost use Rattle.flat.specs.Layout.{buffers, hasRoom, layoutIn};
+ghost use Rattle.frame_hdr.specs.Frame.{FreshDemand3};
+ghost use Rattle.lent.specs.Lent.{placeOf};
 ghost use Rattle.rectangles.specs.Rectangles.{Outcome};
-ghost use Rattle.tile_layout.specs.Limits.{argsOf};
-ghost use Rattle.capi.specs.Outcomes.{segOutcome, tileOutcome, isKnown, frameTypeOf, presentOf, frameOutcome, headerOutcome, lentRectangles};
-ghost use Rattle.capi.specs.Places.{placeOf, flatPlace, flatNumber, flatSigned};
+ghost use Rattle.tile_layout.specs.Demand3.{Demand3};
+ghost use Rattle.tile_layout.specs.Limits.{argsOf, inDomain};
+ghost use Rattle.capi.specs.Calls.{lentSegInfo, lentTileInfo, headerRoom, lentHeader, isKnown, frameTypeOf, presentOf, lentFrame, lentRectangles};
+ghost use Rattle.capi.specs.Promises.{tilesLeft, frameLeft, HeaderLeft};
+use answers::is_refusal;
 use answers::number;
-use codes::get_bits_subexp;
-use codes::get_bits_subexp_u;
-use codes::get_golomb;
-use codes::get_ref_uniform;
-use codes::get_uleb128;
-use codes::get_uniform;
-use codes::get_vlc;
+use flat::has_room;
 use flat::put_delta_q;
 use flat::put_masks;
 use flat::put_tile_info;
@@ -30,236 +25,39 @@ use frame_hdr::FrameHeader;
 use frame_hdr::FrameType;
 use frame_hdr::SeqLayout;
 use frame_hdr::frame_layout;
-use getbits::Place;
-use getbits::byte_pos;
-use getbits::bytealign;
-use getbits::get_bit;
-use getbits::get_bits;
-use getbits::get_sbits;
 use getbits::read_bits;
-use getbits::remaining_bytes;
+use lent::is_set;
+use lent::place_of;
+use lent::put_place;
 use rectangles::tile_rectangles;
 use seg_info::parse_seg_info;
 use seq_fields::AdaptiveBoolean;
 use seq_hdr::parse_seq_hdr;
 use tile_info::parse_tile_info;
 
-// A place from three numbers.
-fn place(byte: usize, used: u32, error: u32) -> Place
-    ensures { λ r. ⌜ r ≡ placeOf byte used error ⌝ }
-{
-    Place {
-        byte,
-        used,
-        error: error != 0,
-    }
-}
-
-// The place is handed back as three numbers.
-fn put_place(p: Place, byte: &mut usize, used: &mut u32, error: &mut u32)
-    ensures { λ _. ⌜ (now (byte .exit) ∷ now (used .exit) ∷ now (error .exit) ∷ []) ≡ flatPlace p ⌝ }
-{
-    *byte = p.byte;
-    *used = p.used;
-    *error = p.error as u32;
-}
+// The number of the interface.
+const INTERFACE: u32 = 2;
 
 #[no_mangle]
-pub extern "C" fn mubanlig_get_bit(
-    s: &[u8],
-    byte: &mut usize,
-    used: &mut u32,
-    error: &mut u32,
-) -> u32
-    ensures { λ r. ⌜ (r ∷ now (byte .exit) ∷ now (used .exit) ∷ now (error .exit) ∷ [])
-        ≡ flatNumber (getBit (now (s .entry)) (placeOf (now (byte .entry)) (now (used .entry)) (now (error .entry)))) ⌝ }
+pub extern "C" fn mubanlig_interface_2() -> u32
+    ensures { λ r. ⌜ r ≡ 2 ⌝ }
 {
-    let r = get_bit(s, place(*byte, *used, *error));
-    put_place(r.next, &mut *byte, &mut *used, &mut *error);
-    r.value
-}
-
-#[no_mangle]
-pub extern "C" fn mubanlig_get_bits(
-    s: &[u8],
-    byte: &mut usize,
-    used: &mut u32,
-    error: &mut u32,
-    n: i32,
-) -> u32
-    ensures { λ r. ⌜ (r ∷ now (byte .exit) ∷ now (used .exit) ∷ now (error .exit) ∷ [])
-        ≡ flatNumber (getBits (now (s .entry)) (placeOf (now (byte .entry)) (now (used .entry)) (now (error .entry))) n) ⌝ }
-{
-    let r = get_bits(s, place(*byte, *used, *error), n);
-    put_place(r.next, &mut *byte, &mut *used, &mut *error);
-    r.value
-}
-
-#[no_mangle]
-pub extern "C" fn mubanlig_get_sbits(
-    s: &[u8],
-    byte: &mut usize,
-    used: &mut u32,
-    error: &mut u32,
-    n: i32,
-) -> i32
-    ensures { λ r. ⌜ (r ∷ pos (now (byte .exit)) ∷ pos (now (used .exit)) ∷ pos (now (error .exit)) ∷ [])
-        ≡ flatSigned (getSbits (now (s .entry)) (placeOf (now (byte .entry)) (now (used .entry)) (now (error .entry))) n) ⌝ }
-{
-    let r = get_sbits(s, place(*byte, *used, *error), n);
-    put_place(r.next, &mut *byte, &mut *used, &mut *error);
-    r.value
-}
-
-#[no_mangle]
-pub extern "C" fn mubanlig_get_vlc(
-    s: &[u8],
-    byte: &mut usize,
-    used: &mut u32,
-    error: &mut u32,
-) -> u32
-    ensures { λ r. ⌜ (r ∷ now (byte .exit) ∷ now (used .exit) ∷ now (error .exit) ∷ [])
-        ≡ flatNumber (getVlc (now (s .entry)) (placeOf (now (byte .entry)) (now (used .entry)) (now (error .entry)))) ⌝ }
-{
-    let r = get_vlc(s, place(*byte, *used, *error));
-    put_place(r.next, &mut *byte, &mut *used, &mut *error);
-    r.value
-}
-
-#[no_mangle]
-pub extern "C" fn mubanlig_get_uniform(
-    s: &[u8],
-    byte: &mut usize,
-    used: &mut u32,
-    error: &mut u32,
-    max: u32,
-) -> u32
-    ensures { λ r. ⌜ (r ∷ now (byte .exit) ∷ now (used .exit) ∷ now (error .exit) ∷ [])
-        ≡ flatNumber (getUniform (now (s .entry)) (placeOf (now (byte .entry)) (now (used .entry)) (now (error .entry))) max) ⌝ }
-{
-    let r = get_uniform(s, place(*byte, *used, *error), max);
-    put_place(r.next, &mut *byte, &mut *used, &mut *error);
-    r.value
-}
-
-#[no_mangle]
-pub extern "C" fn mubanlig_get_ref_uniform(
-    s: &[u8],
-    byte: &mut usize,
-    used: &mut u32,
-    error: &mut u32,
-    max: u32,
-    def: u32,
-) -> u32
-    ensures { λ r. ⌜ (r ∷ now (byte .exit) ∷ now (used .exit) ∷ now (error .exit) ∷ [])
-        ≡ flatNumber (getRefUniform (now (s .entry)) (placeOf (now (byte .entry)) (now (used .entry)) (now (error .entry))) max def) ⌝ }
-{
-    let r = get_ref_uniform(s, place(*byte, *used, *error), max, def);
-    put_place(r.next, &mut *byte, &mut *used, &mut *error);
-    r.value
-}
-
-#[no_mangle]
-pub extern "C" fn mubanlig_get_uleb128(
-    s: &[u8],
-    byte: &mut usize,
-    used: &mut u32,
-    error: &mut u32,
-) -> u32
-    ensures { λ r. ⌜ (r ∷ now (byte .exit) ∷ now (used .exit) ∷ now (error .exit) ∷ [])
-        ≡ flatNumber (getUleb128 (now (s .entry)) (placeOf (now (byte .entry)) (now (used .entry)) (now (error .entry)))) ⌝ }
-{
-    let r = get_uleb128(s, place(*byte, *used, *error));
-    put_place(r.next, &mut *byte, &mut *used, &mut *error);
-    r.value
-}
-
-#[no_mangle]
-pub extern "C" fn mubanlig_get_golomb(
-    s: &[u8],
-    byte: &mut usize,
-    used: &mut u32,
-    error: &mut u32,
-    k: u32,
-) -> u32
-    ensures { λ r. ⌜ (r ∷ now (byte .exit) ∷ now (used .exit) ∷ now (error .exit) ∷ [])
-        ≡ flatNumber (getGolomb (now (s .entry)) (placeOf (now (byte .entry)) (now (used .entry)) (now (error .entry))) k) ⌝ }
-{
-    let r = get_golomb(s, place(*byte, *used, *error), k);
-    put_place(r.next, &mut *byte, &mut *used, &mut *error);
-    r.value
-}
-
-#[no_mangle]
-pub extern "C" fn mubanlig_get_bits_subexp_u(
-    s: &[u8],
-    byte: &mut usize,
-    used: &mut u32,
-    error: &mut u32,
-    ref_val: u32,
-    n: u32,
-    k: i32,
-) -> u32
-    ensures { λ r. ⌜ (r ∷ now (byte .exit) ∷ now (used .exit) ∷ now (error .exit) ∷ [])
-        ≡ flatNumber (getBitsSubexpU (now (s .entry)) (placeOf (now (byte .entry)) (now (used .entry)) (now (error .entry))) «ref_val» n k) ⌝ }
-{
-    let r = get_bits_subexp_u(s, place(*byte, *used, *error), ref_val, n, k);
-    put_place(r.next, &mut *byte, &mut *used, &mut *error);
-    r.value
-}
-
-#[no_mangle]
-pub extern "C" fn mubanlig_get_bits_subexp(
-    s: &[u8],
-    byte: &mut usize,
-    used: &mut u32,
-    error: &mut u32,
-    ref_val: i32,
-    n: u32,
-) -> i32
-    ensures { λ r. ⌜ (r ∷ pos (now (byte .exit)) ∷ pos (now (used .exit)) ∷ pos (now (error .exit)) ∷ [])
-        ≡ flatSigned (getBitsSubexp (now (s .entry)) (placeOf (now (byte .entry)) (now (used .entry)) (now (error .entry))) «ref_val» n) ⌝ }
-{
-    let r = get_bits_subexp(s, place(*byte, *used, *error), ref_val, n);
-    put_place(r.next, &mut *byte, &mut *used, &mut *error);
-    r.value
-}
-
-#[no_mangle]
-pub extern "C" fn mubanlig_bytealign(s: &[u8], byte: &mut usize, used: &mut u32, error: &mut u32)
-    ensures { λ _. ⌜ (now (byte .exit) ∷ now (used .exit) ∷ now (error .exit) ∷ [])
-        ≡ flatPlace (byteAlign (now (s .entry)) (placeOf (now (byte .entry)) (now (used .entry)) (now (error .entry)))) ⌝ }
-{
-    let next = bytealign(s, place(*byte, *used, *error));
-    put_place(next, &mut *byte, &mut *used, &mut *error);
-}
-
-#[no_mangle]
-pub extern "C" fn mubanlig_byte_pos(s: &[u8], byte: usize, used: u32) -> usize
-    ensures { λ r. ⌜ r ≡ bytePos (now (s .entry)) (placeOf byte used 0) ⌝ }
-{
-    byte_pos(s, place(byte, used, 0))
-}
-
-#[no_mangle]
-pub extern "C" fn mubanlig_remaining_bytes(s: &[u8], byte: usize, used: u32) -> usize
-    ensures { λ r. ⌜ r ≡ length (now (s .entry)) - bytePos (now (s .entry)) (placeOf byte used 0) ⌝ }
-{
-    remaining_bytes(s, place(byte, used, 0))
+    INTERFACE
 }
 
 #[no_mangle]
 pub extern "C" fn mubanlig_parse_seg_info(
     s: &[u8],
-    byte: &mut usize,
-    used: &mut u32,
-    error: &mut u32,
+    position: &mut usize,
+    error: &mut u8,
     delta_q: &mut [i16],
     masks: &mut [u16],
-    ext: u32,
+    ext: u8,
 ) -> u32
-    ensures { λ r. ⌜ (r ∷ now (byte .exit) ∷ now (used .exit) ∷ now (error .exit) ∷ now (masks .exit), now («delta_q» .exit))
-        ≡ segOutcome (now (s .entry)) (now (byte .entry)) (now (used .entry)) (now (error .entry)) (now («delta_q» .entry)) (now (masks .entry)) ext ⌝ }
+    ensures { λ r. ⌜ ((r ∷ now (position .exit) ∷ now (error .exit) ∷ []), now («delta_q» .exit), now (masks .exit))
+        ≡ lentSegInfo (now (s .entry)) (now (position .entry)) (now (error .entry)) (now («delta_q» .entry)) (now (masks .entry)) ext ⌝ }
+    ensures { λ r. ⌜ ((r ≡ 0 → ⊥) → now («delta_q» .exit) ≡ now («delta_q» .entry)) ⌝ }
+    ensures { λ r. ⌜ ((r ≡ 0 → ⊥) → now (masks .exit) ≡ now (masks .entry)) ⌝ }
 {
     if delta_q.len() < 16 {
         return 5;
@@ -267,10 +65,10 @@ pub extern "C" fn mubanlig_parse_seg_info(
     if masks.len() < 3 {
         return 5;
     }
-    let p = place(*byte, *used, *error);
+    let p = place_of(*position, *error);
     let seg = seg_info_of(&*delta_q, &*masks);
-    let r = parse_seg_info(s, p, seg, ext != 0);
-    put_place(r.next, &mut *byte, &mut *used, &mut *error);
+    let r = parse_seg_info(s, p, seg, is_set(ext));
+    put_place(r.next, &mut *position, &mut *error);
     put_delta_q(r.seg, &mut *delta_q);
     put_masks(r.seg, &mut *masks);
     0
@@ -279,10 +77,11 @@ pub extern "C" fn mubanlig_parse_seg_info(
 #[no_mangle]
 pub extern "C" fn mubanlig_parse_tile_info(
     s: &[u8],
-    byte: &mut usize,
-    used: &mut u32,
-    error: &mut u32,
-    info: &mut [u16],
+    position: &mut usize,
+    error: &mut u8,
+    info: &mut [u8],
+    col_start_sb: &mut [u16],
+    row_start_sb: &mut [u16],
     sbmul: i32,
     sb128: u8,
     seq_sb128: u8,
@@ -291,41 +90,66 @@ pub extern "C" fn mubanlig_parse_tile_info(
     level: u8,
     tier: u8,
 ) -> u32
-    ensures { λ r. ⌜ (r ∷ now (byte .exit) ∷ now (used .exit) ∷ now (error .exit) ∷ now (info .exit))
-        ≡ tileOutcome (now (s .entry)) (now (byte .entry)) (now (used .entry)) (now (error .entry)) (now (info .entry)) (argsOf sbmul sb128 «seq_sb128» w h level tier) ⌝ }
+    ensures { λ r. ⌜ ((r ∷ now (position .exit) ∷ now (error .exit) ∷ []), buffers (now (info .exit)) (now («col_start_sb» .exit)) (now («row_start_sb» .exit)))
+        ≡ lentTileInfo (now (s .entry)) (now (position .entry)) (now (error .entry)) (buffers (now (info .entry)) (now («col_start_sb» .entry)) (now («row_start_sb» .entry))) (argsOf sbmul sb128 «seq_sb128» w h level tier) ⌝ }
+    ensures { λ r. ⌜ ((r ≡ 0 → ⊥) → now (info .exit) ≡ now (info .entry)) ⌝ }
+    ensures { λ r. ⌜ ((r ≡ 0 → ⊥) → now («col_start_sb» .exit) ≡ now («col_start_sb» .entry)) ⌝ }
+    ensures { λ r. ⌜ ((r ≡ 0 → ⊥) → now («row_start_sb» .exit) ≡ now («row_start_sb» .entry)) ⌝ }
+    ensures { λ r. ⌜ (hasRoom (buffers (now (info .entry)) (now («col_start_sb» .entry)) (now («row_start_sb» .entry))) ≡ true
+        → inDomain (argsOf sbmul sb128 «seq_sb128» w h level tier) ≡ true
+        → Demand3 (now (s .entry)) (placeOf (now (position .entry)) (now (error .entry))) (argsOf sbmul sb128 «seq_sb128» w h level tier) (tilesLeft r (buffers (now (info .exit)) (now («col_start_sb» .exit)) (now («row_start_sb» .exit))) (placeOf (now (position .exit)) (now (error .exit))))) ⌝ }
 {
-    if info.len() < 139 {
+    if !has_room(&*info, &*col_start_sb, &*row_start_sb) {
         return 5;
     }
-    let p = place(*byte, *used, *error);
-    let thdr = tile_info_of(&*info);
+    let p = place_of(*position, *error);
+    let thdr = tile_info_of(&*info, &*col_start_sb, &*row_start_sb);
     let r = parse_tile_info(s, p, thdr, sbmul, sb128, seq_sb128, w, h, level, tier);
     let answer = r.answer;
-    put_place(r.next, &mut *byte, &mut *used, &mut *error);
-    put_tile_info(r.info, &mut *info);
-    number(answer)
+    put_place(r.next, &mut *position, &mut *error);
+    if is_refusal(answer) {
+        return number(answer);
+    }
+    put_tile_info(r.info, &mut *info, &mut *col_start_sb, &mut *row_start_sb);
+    0
 }
 
 #[no_mangle]
 pub extern "C" fn mubanlig_parse_seq_hdr(
     s: &[u8],
-    byte: &mut usize,
-    used: &mut u32,
-    error: &mut u32,
-    strict: u32,
+    position: &mut usize,
+    error: &mut u8,
+    strict: u8,
     hdr: &mut [i64],
+    info: &mut [u8],
+    col_start_sb: &mut [u16],
+    row_start_sb: &mut [u16],
 ) -> u32
-    ensures { λ r. ⌜ (r ∷ now (byte .exit) ∷ now (used .exit) ∷ now (error .exit) ∷ [], now (hdr .exit))
-        ≡ headerOutcome (now (s .entry)) (now (byte .entry)) (now (used .entry)) (now (error .entry)) strict (now (hdr .entry)) ⌝ }
+    ensures { λ r. ⌜ ((r ∷ now (position .exit) ∷ now (error .exit) ∷ []), now (hdr .exit), buffers (now (info .exit)) (now («col_start_sb» .exit)) (now («row_start_sb» .exit)))
+        ≡ lentHeader (now (s .entry)) (now (position .entry)) (now (error .entry)) strict (now (hdr .entry)) (buffers (now (info .entry)) (now («col_start_sb» .entry)) (now («row_start_sb» .entry))) ⌝ }
+    ensures { λ _. ⌜ (headerRoom (now (hdr .entry)) (buffers (now (info .entry)) (now («col_start_sb» .entry)) (now («row_start_sb» .entry))) ≡ false → now (hdr .exit) ≡ now (hdr .entry)) ⌝ }
+    ensures { λ _. ⌜ (headerRoom (now (hdr .entry)) (buffers (now (info .entry)) (now («col_start_sb» .entry)) (now («row_start_sb» .entry))) ≡ false → now (info .exit) ≡ now (info .entry)) ⌝ }
+    ensures { λ _. ⌜ (headerRoom (now (hdr .entry)) (buffers (now (info .entry)) (now («col_start_sb» .entry)) (now («row_start_sb» .entry))) ≡ false → now («col_start_sb» .exit) ≡ now («col_start_sb» .entry)) ⌝ }
+    ensures { λ _. ⌜ (headerRoom (now (hdr .entry)) (buffers (now (info .entry)) (now («col_start_sb» .entry)) (now («row_start_sb» .entry))) ≡ false → now («row_start_sb» .exit) ≡ now («row_start_sb» .entry)) ⌝ }
+    ensures { λ r. ⌜ ((r ≡ 5 → ⊥) → HeaderLeft (now (s .entry)) (placeOf (now (position .entry)) (now (error .entry))) r (buffers (now (info .exit)) (now («col_start_sb» .exit)) (now («row_start_sb» .exit)))) ⌝ }
 {
-    if hdr.len() < 285 {
+    if hdr.len() < 146 {
         return 5;
     }
-    let p = place(*byte, *used, *error);
-    let r = parse_seq_hdr(s, p, strict != 0);
+    if !has_room(&*info, &*col_start_sb, &*row_start_sb) {
+        return 5;
+    }
+    let p = place_of(*position, *error);
+    let r = parse_seq_hdr(s, p, is_set(strict));
     let answer = r.answer;
-    put_place(r.next, &mut *byte, &mut *used, &mut *error);
+    put_place(r.next, &mut *position, &mut *error);
     put_seq_hdr(r.hdr, &mut *hdr);
+    put_tile_info(
+        r.hdr.tiling.t,
+        &mut *info,
+        &mut *col_start_sb,
+        &mut *row_start_sb,
+    );
     number(answer)
 }
 
@@ -359,43 +183,58 @@ fn is_known(frame_type: u8, present: u8) -> bool
 #[no_mangle]
 pub extern "C" fn mubanlig_parse_tile_info_frmhdr(
     s: &[u8],
-    byte: &mut usize,
-    used: &mut u32,
-    error: &mut u32,
+    position: &mut usize,
+    error: &mut u8,
     frame_type: u8,
     width: i32,
     height: i32,
     sb128: &mut u8,
-    tiling: &mut [u16],
+    info: &mut [u8],
+    col_start_sb: &mut [u16],
+    row_start_sb: &mut [u16],
     seq_sb128: u8,
     max_width: i32,
     max_height: i32,
     level: u8,
     tier: u8,
     present: u8,
-    seq_tiling: &[u16],
+    seq_info: &[u8],
+    seq_col_start_sb: &[u16],
+    seq_row_start_sb: &[u16],
 ) -> u32
-    ensures { λ r. ⌜ (r ∷ now (byte .exit) ∷ now (used .exit) ∷ now (error .exit) ∷ now (sb128 .exit) ∷ now (tiling .exit))
-        ≡ frameOutcome (now (s .entry)) (now (byte .entry)) (now (used .entry)) (now (error .entry)) (now (tiling .entry)) (now («seq_tiling» .entry)) (isKnown «frame_type» present)
-        (record { «frame_type» = frameTypeOf «frame_type»; width = width; height = height; sb128 = now (sb128 .entry); tiling = tileInfoOf (now (tiling .entry)) })
-        (record { sb128 = «seq_sb128»; «max_width» = «max_width»; «max_height» = «max_height»; level = level; tier = tier; present = presentOf present; t = tileInfoOf (now («seq_tiling» .entry)) }) ⌝ }
+    ensures { λ r. ⌜ ((r ∷ now (position .exit) ∷ now (error .exit) ∷ []), now (sb128 .exit), buffers (now (info .exit)) (now («col_start_sb» .exit)) (now («row_start_sb» .exit)))
+        ≡ lentFrame (now (s .entry)) (now (position .entry)) (now (error .entry)) (buffers (now (info .entry)) (now («col_start_sb» .entry)) (now («row_start_sb» .entry)))
+        (buffers (now («seq_info» .entry)) (now («seq_col_start_sb» .entry)) (now («seq_row_start_sb» .entry))) (isKnown «frame_type» present)
+        (record { «frame_type» = frameTypeOf «frame_type»; width = width; height = height; sb128 = now (sb128 .entry); tiling = layoutIn (buffers (now (info .entry)) (now («col_start_sb» .entry)) (now («row_start_sb» .entry))) })
+        (record { sb128 = «seq_sb128»; «max_width» = «max_width»; «max_height» = «max_height»; level = level; tier = tier; present = presentOf present; t = layoutIn (buffers (now («seq_info» .entry)) (now («seq_col_start_sb» .entry)) (now («seq_row_start_sb» .entry))) }) ⌝ }
+    ensures { λ r. ⌜ ((r ≡ 0 → ⊥) → now (sb128 .exit) ≡ now (sb128 .entry)) ⌝ }
+    ensures { λ r. ⌜ ((r ≡ 0 → ⊥) → now (info .exit) ≡ now (info .entry)) ⌝ }
+    ensures { λ r. ⌜ ((r ≡ 0 → ⊥) → now («col_start_sb» .exit) ≡ now («col_start_sb» .entry)) ⌝ }
+    ensures { λ r. ⌜ ((r ≡ 0 → ⊥) → now («row_start_sb» .exit) ≡ now («row_start_sb» .entry)) ⌝ }
+    ensures { λ r. ⌜ (hasRoom (buffers (now (info .entry)) (now («col_start_sb» .entry)) (now («row_start_sb» .entry))) && hasRoom (buffers (now («seq_info» .entry)) (now («seq_col_start_sb» .entry)) (now («seq_row_start_sb» .entry))) ≡ true
+        → isKnown «frame_type» present ≡ true
+        → FreshDemand3 (now (s .entry)) (placeOf (now (position .entry)) (now (error .entry)))
+        (record { «frame_type» = frameTypeOf «frame_type»; width = width; height = height; sb128 = now (sb128 .entry); tiling = layoutIn (buffers (now (info .entry)) (now («col_start_sb» .entry)) (now («row_start_sb» .entry))) })
+        (record { sb128 = «seq_sb128»; «max_width» = «max_width»; «max_height» = «max_height»; level = level; tier = tier; present = presentOf present; t = layoutIn (buffers (now («seq_info» .entry)) (now («seq_col_start_sb» .entry)) (now («seq_row_start_sb» .entry))) })
+        (frameLeft (record { «frame_type» = frameTypeOf «frame_type»; width = width; height = height; sb128 = now (sb128 .entry); tiling = layoutIn (buffers (now (info .entry)) (now («col_start_sb» .entry)) (now («row_start_sb» .entry))) })
+        r (now (sb128 .exit)) (buffers (now (info .exit)) (now («col_start_sb» .exit)) (now («row_start_sb» .exit))) (placeOf (now (position .exit)) (now (error .exit))))) ⌝ }
 {
-    if tiling.len() < 139 {
+    if !has_room(&*info, &*col_start_sb, &*row_start_sb) {
         return 5;
     }
-    if seq_tiling.len() < 139 {
+    if !has_room(seq_info, seq_col_start_sb, seq_row_start_sb) {
         return 5;
     }
-    let p = place(*byte, *used, *error);
+    let p = place_of(*position, *error);
     if !is_known(frame_type, present) {
         // No bit is used.
         let here = read_bits(s, p, 0);
-        put_place(here.next, &mut *byte, &mut *used, &mut *error);
+        put_place(here.next, &mut *position, &mut *error);
         return 4;
     }
     let frame_type = frame_type_of(frame_type);
     let present = present_of(present);
-    let t = tile_info_of(seq_tiling);
+    let t = tile_info_of(seq_info, seq_col_start_sb, seq_row_start_sb);
     let seq = SeqLayout {
         sb128: seq_sb128,
         max_width,
@@ -405,7 +244,7 @@ pub extern "C" fn mubanlig_parse_tile_info_frmhdr(
         present,
         t,
     };
-    let tiles = tile_info_of(&*tiling);
+    let tiles = tile_info_of(&*info, &*col_start_sb, &*row_start_sb);
     let hdr = FrameHeader {
         frame_type,
         width,
@@ -416,19 +255,39 @@ pub extern "C" fn mubanlig_parse_tile_info_frmhdr(
     let r = frame_layout(s, p, hdr, seq);
     let answer = r.answer;
     let read = r.hdr;
-    put_place(r.next, &mut *byte, &mut *used, &mut *error);
+    put_place(r.next, &mut *position, &mut *error);
+    if is_refusal(answer) {
+        return number(answer);
+    }
     *sb128 = read.sb128;
-    put_tile_info(read.tiling, &mut *tiling);
-    number(answer)
+    put_tile_info(
+        read.tiling,
+        &mut *info,
+        &mut *col_start_sb,
+        &mut *row_start_sb,
+    );
+    0
 }
 
 #[no_mangle]
-pub extern "C" fn mubanlig_tile_rectangles(t: &[u16], sb128: u8, out: &mut [u32]) -> u32
-    ensures { λ r. ⌜ r ≡ numberOf (lentRectangles (now (t .entry)) sb128 (length (now (out .entry)))) ⌝ }
-    ensures { λ _. ⌜ Outcome (tileInfoOf (now (t .entry))) sb128 (lentRectangles (now (t .entry)) sb128 (length (now (out .entry)))) (now (out .entry)) (now (out .exit)) ⌝ }
+pub extern "C" fn mubanlig_tile_rectangles(
+    info: &[u8],
+    col_start_sb: &[u16],
+    row_start_sb: &[u16],
+    sb128: u8,
+    out: &mut [u32],
+) -> u32
+    ensures { λ r. ⌜ r ≡ numberOf (lentRectangles (buffers (now (info .entry)) (now («col_start_sb» .entry)) (now («row_start_sb» .entry))) sb128 (length (now (out .entry)))) ⌝ }
+    ensures { λ _. ⌜ Outcome (layoutIn (buffers (now (info .entry)) (now («col_start_sb» .entry)) (now («row_start_sb» .entry)))) sb128
+        (lentRectangles (buffers (now (info .entry)) (now («col_start_sb» .entry)) (now («row_start_sb» .entry))) sb128 (length (now (out .entry)))) (now (out .entry)) (now (out .exit)) ⌝ }
+    ensures { λ r. ⌜ ((r ≡ 0 → ⊥) → now (out .exit) ≡ now (out .entry)) ⌝ }
 {
-    if t.len() < 139 {
+    if !has_room(info, col_start_sb, row_start_sb) {
         return 5;
     }
-    number(tile_rectangles(tile_info_of(t), sb128, &mut *out))
+    number(tile_rectangles(
+        tile_info_of(info, col_start_sb, row_start_sb),
+        sb128,
+        &mut *out,
+    ))
 }

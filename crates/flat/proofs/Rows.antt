@@ -13,11 +13,11 @@ use mir.Syntax.{Width, w64}
 use mir.Val.{SFits, hbits, toZ, ofZ}
 use mir.Facts.{sfits-widen, toZ-ofZ}
 use mir.ValLaws.{toZ-pos}
-use lib.Seq.{append-snoc, set-split, paste, paste-zero, paste-suc, length-take-le, take-length, take-at, getD-take, drop-length, drop-drop, drop-append-add}
+use lib.Seq.{append-snoc, set-split, sets, sets-eq, paste, paste-zero, paste-suc, length-take-le, take-length, take-at, getD-take, drop-length, drop-drop, drop-append-add}
 use borrow.Author.Tests.{le-leb, lt-leb}
 use Rattle.getbits.proofs.Chain.{taken, left}
-use Rattle.flat.specs.Layout.{inFront}
-use Rattle.flat.specs.Rows.{put, Written}
+use Rattle.flat.specs.Layout.{overFront}
+use Rattle.flat.specs.Rows.{put, PutAt}
 
 module _ {A : Type 0} (before : List A) (at : ℕ) (xs : List A) where
   -- how far a loop that copies xs is after i turns
@@ -43,7 +43,7 @@ module _ {A : Type 0} (before : List A) (at : ℕ) (xs : List A) where
       }
 
   -- the end
-  pub copied : (after : List A) (i n : ℕ) → length xs ≡ n → n ≤ i → Copied after i → Written before at xs n after (at + n)
+  pub copied : (after : List A) (i n : ℕ) → length xs ≡ n → n ≤ i → Copied after i → PutAt before at xs n after (at + n)
   unfolding put
   copied after i n count h k =
       let e : i ≡ length xs = omega (arith, k .within) in
@@ -54,8 +54,27 @@ module _ {A : Type 0} (before : List A) (at : ℕ) (xs : List A) where
         long = k .long;
       }
 
+-- a turn of a loop from the buffer's front on
+pub front-turned : {A : Type 0} (before xs : List A) → length xs ≤ length before → (after : List A) (i : ℕ) (v d : A) → i < length xs → v ≡ getD xs i d → Copied before 0 xs after i → Copied before 0 xs (set after i v) (i + 1)
+front-turned before xs room after i v d h e k =
+    let same : 0 + i ≡ i = omega arith in
+    rw same at (turned before 0 xs (omega arith) after i v d h e k)
+
+-- the end of a loop from the buffer's front on
+pub over-front : {A : Type 0} (before xs after : List A) (i n : ℕ) → length xs ≡ n → n ≤ i → Copied before 0 xs after i → after ≡ xs ++ drop n before
+unfolding put
+over-front {A} before xs after i n count h k =
+    let e : 0 + length xs ≡ n = omega (arith, count) in
+    copied before 0 xs after i n count h k .stands ∙ ap (λ (m : ℕ). xs ++ drop m before) e
+
+-- stores from the buffer's front on
+pub stored : {A : Type 0} (vs before : List A) (n : ℕ) → length vs ≡ n → n ≤ length before → sets before 0 vs ≡ vs ++ drop n before
+stored vs before n count h =
+    let e : 0 + length vs ≡ n = omega (arith, count) in
+    sets-eq vs before 0 (omega (arith, count)) ∙ ap (λ (m : ℕ). vs ++ drop m before) e
+
 -- two rows, one behind the other
-pub both : {A : Type 0} {o o' o'' : List A} {a a' a'' n m : ℕ} {xs ys : List A} → Written o a xs n o' a' → Written o' a' ys m o'' a'' → a + n ≤ length o → Written o a (xs ++ ys) (n + m) o'' a''
+pub both : {A : Type 0} {o o' o'' : List A} {a a' a'' n m : ℕ} {xs ys : List A} → PutAt o a xs n o' a' → PutAt o' a' ys m o'' a'' → a + n ≤ length o → PutAt o a (xs ++ ys) (n + m) o'' a''
 unfolding put
 both {A} {o} {o'} {o''} {a} {a'} {a''} {n} {m} {xs} {ys} v w room =
     let p = take a o ++ xs in
@@ -77,7 +96,7 @@ both {A} {o} {o'} {o''} {a} {a'} {a''} {n} {m} {xs} {ys} v w room =
     }
 
 -- one number, stored
-pub one : {A : Type 0} (o : List A) (a : ℕ) {x v : A} → v ≡ x → a + 1 ≤ length o → Written o a (x ∷ []) 1 (set o a v) (a + 1)
+pub one : {A : Type 0} (o : List A) (a : ℕ) {x v : A} → v ≡ x → a + 1 ≤ length o → PutAt o a (x ∷ []) 1 (set o a v) (a + 1)
 unfolding put
 one {A} o a {x} {v} e h =
     let inside : a < length o = omega arith in
@@ -89,7 +108,7 @@ one {A} o a {x} {v} e h =
     }
 
 -- a row in front of a buffer
-pub fronted : {A : Type 0} {o o' : List A} {n a : ℕ} {xs : List A} → Written o 0 xs n o' a → n ≤ length o → o' ≡ inFront n xs o
+pub fronted : {A : Type 0} {o o' : List A} {n a : ℕ} {xs : List A} → PutAt o 0 xs n o' a → n ≤ length o → o' ≡ overFront n xs o
 unfolding put
 fronted {A} {o} {o'} {n} {a} {xs} w h =
     let along : 0 + length xs ≡ n = omega (arith, w .count) in
@@ -98,7 +117,7 @@ fronted {A} {o} {o'} {n} {a} {xs} w h =
     ∙ sym (taken (leb n (length o)) (xs ++ drop n o) o (le-leb n (length o) h))
 
 -- a buffer that is too short
-pub kept : {A : Type 0} (n : ℕ) (xs o : List A) → length o < n → o ≡ inFront n xs o
+pub kept : {A : Type 0} (n : ℕ) (xs o : List A) → length o < n → o ≡ overFront n xs o
 kept n xs o h = sym (left (leb n (length o)) (xs ++ drop n o) o (lt-leb n (length o) h))
 
 -- a row as long as the buffer
@@ -115,7 +134,7 @@ module _ (before : List ℤ) (at : ℕ) (xs : List ℕ) where
       (toZ-pos w64 (getD xs i 0) small ∙ sym (List·getD-map pos xs i 0))
       k
 
-  pub wide : (after : List ℤ) (i : ℕ) → length xs ≤ i → Copied before at (map pos xs) after i → Written before at (map pos xs) (length xs) after (at + length xs)
+  pub wide : (after : List ℤ) (i : ℕ) → length xs ≤ i → Copied before at (map pos xs) after i → PutAt before at (map pos xs) (length xs) after (at + length xs)
   wide after i h k = copied before at (map pos xs) after i (length xs) (length-map xs pos) h k
 
 -- a signed number, written at a wider width
@@ -131,9 +150,7 @@ module _ {A : Type 0} (n : ℕ) (xs : List A) (z : A) (room : n ≤ length xs) w
   pub filled : (a : List A) (i : ℕ) (v : A) → i < n → v ≡ getD xs i z → Copied (replicate n z) 0 (take n xs) a i → Copied (replicate n z) 0 (take n xs) (set a i v) (i + 1)
   filled a i v h e k =
       let long = length-take-le n xs room in
-      let same : 0 + i ≡ i = omega arith in
-      rw same at
-      (turned (replicate n z) 0 (take n xs) (omega (arith, long, length-replicate n z)) a i v z (omega (arith, long)) (e ∙ sym (getD-take n xs i z h)) k)
+      front-turned (replicate n z) (take n xs) (omega (arith, long, length-replicate n z)) a i v z (omega (arith, long)) (e ∙ sym (getD-take n xs i z h)) k
 
   pub full : (a : List A) (i : ℕ) → n ≤ i → Copied (replicate n z) 0 (take n xs) a i → a ≡ take n xs
   full a i h k =

@@ -1,4 +1,5 @@
 -- A sequence header as flat numbers: each record's fields in the order of its declaration, depth first.
+-- Its layout stands in buffers of its own.
 use Prim.Native.Nat.{ℕ}
 use mathlib.Core.Bool.{false}
 use mathlib.Core.List.{List, [], _∷_, _++_, map}
@@ -25,7 +26,6 @@ use Rattle.seq_picture.specs.declared.FrameSize.{FrameSize}
 use Rattle.seq_picture.specs.declared.Layers.{Layers}
 use Rattle.seq_picture.specs.declared.Level.{Level}
 use Rattle.seq_picture.specs.declared.Picture.{Picture}
-use Rattle.seq_record.specs.declared.SeqTiling.{SeqTiling}
 use Rattle.seq_record.specs.declared.SequenceHeader.{SequenceHeader}
 use Rattle.seq_record.specs.declared.Start.{Start}
 use Rattle.seq_residual.specs.declared.Entropy.{Entropy}
@@ -35,12 +35,11 @@ use Rattle.seq_residual.specs.declared.Residual.{Residual}
 use Rattle.seq_residual.specs.declared.Transform.{Transform}
 use Rattle.seq_fields.specs.declared.AdaptiveBoolean.the-variants.{Off, On, Adaptive}
 use Rattle.seq_fields.specs.declared.PixelLayout.the-variants.{I400, I420, I422, I444}
-use Rattle.flat.specs.Layout.{flatTileInfo}
 use Rattle.flat.specs.Segments.{flatMasks}
 
 -- unsigned numbers among signed ones
-abbrev pub numbers : List ℕ → List ℤ
-numbers xs = map pos xs
+abbrev pub asSigned : List ℕ → List ℤ
+asSigned xs = map pos xs
 
 -- the enums by the Rust's numbers
 abbrev pub layoutNumber : PixelLayout → ℕ
@@ -56,31 +55,35 @@ adaptiveNumber Adaptive = 2
 
 -- id and profile
 abbrev pub flatStart : Start → List ℤ
-flatStart s = numbers (s .id ∷ s .profile ∷ [])
+flatStart s = asSigned (s .id ∷ s .profile ∷ [])
 
 -- the reduced form, level and tier
 abbrev pub flatLevel : Level → List ℤ
-flatLevel l = numbers (bitOf (l .«reduced_still_picture_header») ∷ l .level ∷ l .tier ∷ [])
+flatLevel l = asSigned (bitOf (l .«reduced_still_picture_header») ∷ l .level ∷ l .tier ∷ [])
 
 -- the pixel format
 abbrev pub flatFormat : Format → List ℤ
-flatFormat f = numbers (layoutNumber (f .layout) ∷ f .«ss_hor» ∷ f .«ss_ver» ∷ f .hbd ∷ [])
+flatFormat f = asSigned (layoutNumber (f .layout) ∷ f .«ss_hor» ∷ f .«ss_ver» ∷ f .hbd ∷ [])
 
 -- layers
 abbrev pub flatLayers : Layers → List ℤ
-flatLayers l = numbers (l .«lcr_id» ∷ bitOf (l .«still_picture») ∷ l .«max_tlayer_id» ∷ l .«max_mlayer_id» ∷ bitOf (l .monotonic) ∷ [])
+flatLayers l =
+    asSigned (l .«lcr_id» ∷ bitOf (l .«still_picture») ∷ l .«max_tlayer_id» ∷ l .«max_mlayer_id»
+    ∷ bitOf (l .monotonic) ∷ [])
 
 -- the frame size
 unfoldable pub flatSize : FrameSize → List ℤ
-flatSize s = numbers (s .«width_n_bits» ∷ s .«height_n_bits» ∷ []) ++ (s .«max_width» ∷ s .«max_height» ∷ [])
+flatSize s = asSigned (s .«width_n_bits» ∷ s .«height_n_bits» ∷ []) ++ (s .«max_width» ∷ s .«max_height» ∷ [])
 
 -- the crop window
 abbrev pub flatCrop : CropInfo → List ℤ
-flatCrop c = numbers (bitOf (c .enabled) ∷ c .left ∷ c .right ∷ c .top ∷ c .bottom ∷ [])
+flatCrop c = asSigned (bitOf (c .enabled) ∷ c .left ∷ c .right ∷ c .top ∷ c .bottom ∷ [])
 
 -- dependencies of layers
 unfoldable pub flatDependencies : Dependencies → List ℤ
-flatDependencies d = numbers (bitOf (d .«tlayer_dependency_present») ∷ bitOf (d .«mlayer_dependency_present») ∷ []) ++ numbers (d .«tlayer_dependencies») ++ numbers (d .«mlayer_dependencies»)
+flatDependencies d =
+    asSigned (bitOf (d .«tlayer_dependency_present») ∷ bitOf (d .«mlayer_dependency_present») ∷ [])
+    ++ asSigned (d .«tlayer_dependencies») ++ asSigned (d .«mlayer_dependencies»)
 
 -- the picture: the last four
 unfoldable pub flatPicture : Picture → List ℤ
@@ -88,15 +91,21 @@ flatPicture p = flatLayers (p .layers) ++ flatSize (p .size) ++ flatCrop (p .cro
 
 -- partition tools
 abbrev pub flatPartition : Partition → List ℤ
-flatPartition p = numbers (p .sb128 ∷ bitOf (p .sdp) ∷ bitOf (p .«ext_sdp») ∷ bitOf (p .«ext_partitions») ∷ bitOf (p .«uneven_4way_partitions») ∷ p .«max_pb_aspect_ratio_log2» ∷ [])
+flatPartition p =
+    asSigned (p .sb128 ∷ bitOf (p .sdp) ∷ bitOf (p .«ext_sdp») ∷ bitOf (p .«ext_partitions»)
+    ∷ bitOf (p .«uneven_4way_partitions») ∷ p .«max_pb_aspect_ratio_log2» ∷ [])
 
 -- segmentation
 unfoldable pub flatSegmentation : SeqSegmentation → List ℤ
-flatSegmentation s = numbers (bitOf (s .ext) ∷ bitOf (s .«info_present») ∷ bitOf (s .adaptive) ∷ []) ++ s .d .«delta_q» ++ numbers (flatMasks (s .d))
+flatSegmentation s =
+    asSigned (bitOf (s .ext) ∷ bitOf (s .«info_present») ∷ bitOf (s .adaptive) ∷ []) ++ s .d .«delta_q»
+    ++ asSigned (flatMasks (s .d))
 
 -- intra tools
 abbrev pub flatIntra : Intra → List ℤ
-flatIntra i = numbers (bitOf (i .«intra_dip») ∷ bitOf (i .«intra_edge_filter») ∷ bitOf (i .mrls) ∷ bitOf (i .cfl) ∷ i .«cfl_ds_filter_index» ∷ bitOf (i .mhccp) ∷ bitOf (i .ibp) ∷ [])
+flatIntra i =
+    asSigned (bitOf (i .«intra_dip») ∷ bitOf (i .«intra_edge_filter») ∷ bitOf (i .mrls) ∷ bitOf (i .cfl)
+    ∷ i .«cfl_ds_filter_index» ∷ bitOf (i .mhccp) ∷ bitOf (i .ibp) ∷ [])
 
 -- the blocks: the last three
 unfoldable pub flatBlocks : Blocks → List ℤ
@@ -104,27 +113,40 @@ flatBlocks b = flatPartition (b .partition) ++ flatSegmentation (b .segmentation
 
 -- motion modes
 abbrev pub flatMotion : Motion → List ℤ
-flatMotion m = numbers (m .«motion_modes» ∷ bitOf (m .«frame_motion_modes_present») ∷ bitOf (m .«six_param_warp_delta») ∷ bitOf (m .«masked_compound») ∷ bitOf (m .«ref_frame_mvs») ∷ m .«reduced_ref_frame_mvs_mode» ∷ m .«order_hint_n_bits» ∷ [])
+flatMotion m =
+    asSigned (m .«motion_modes» ∷ bitOf (m .«frame_motion_modes_present») ∷ bitOf (m .«six_param_warp_delta»)
+    ∷ bitOf (m .«masked_compound») ∷ bitOf (m .«ref_frame_mvs») ∷ m .«reduced_ref_frame_mvs_mode»
+    ∷ m .«order_hint_n_bits» ∷ [])
 
 -- reference frames
 abbrev pub flatRefFrames : RefFrames → List ℤ
-flatRefFrames f = numbers (bitOf (f .«refmv_bank») ∷ f .«drl_reorder» ∷ bitOf (f .«explicit_ref_frame_map») ∷ f .«ref_frames» ∷ f .«ref_frames_log2» ∷ [])
+flatRefFrames f =
+    asSigned (bitOf (f .«refmv_bank») ∷ f .«drl_reorder» ∷ bitOf (f .«explicit_ref_frame_map»)
+    ∷ f .«ref_frames» ∷ f .«ref_frames_log2» ∷ [])
 
 -- reference lists
 abbrev pub flatDrl : Drl → List ℤ
-flatDrl d = numbers (d .«number_of_bits_for_lt_frame_id» ∷ d .«def_max_drl_bits» ∷ bitOf (d .«allow_frame_max_drl_bits») ∷ d .«def_max_bvp_drl_bits» ∷ bitOf (d .«allow_max_bvp_drl_bits») ∷ d .«num_same_ref_comp» ∷ [])
+flatDrl d =
+    asSigned (d .«number_of_bits_for_lt_frame_id» ∷ d .«def_max_drl_bits»
+    ∷ bitOf (d .«allow_frame_max_drl_bits») ∷ d .«def_max_bvp_drl_bits» ∷ bitOf (d .«allow_max_bvp_drl_bits»)
+    ∷ d .«num_same_ref_comp» ∷ [])
 
 -- temporal interpolation
 abbrev pub flatTip : Tip → List ℤ
-flatTip t = numbers (bitOf (t .tip) ∷ bitOf (t .«tip_hole_fill») ∷ bitOf (t .«mv_traj») ∷ bitOf (t .bawp) ∷ bitOf (t .cwp) ∷ bitOf (t .«imp_msk_bld») ∷ bitOf (t .«db_sub_pu») ∷ bitOf (t .«tip_explicit_qp») ∷ [])
+flatTip t =
+    asSigned (bitOf (t .tip) ∷ bitOf (t .«tip_hole_fill») ∷ bitOf (t .«mv_traj») ∷ bitOf (t .bawp)
+    ∷ bitOf (t .cwp) ∷ bitOf (t .«imp_msk_bld») ∷ bitOf (t .«db_sub_pu») ∷ bitOf (t .«tip_explicit_qp») ∷ [])
 
 -- motion vectors
 abbrev pub flatMv : Mv → List ℤ
-flatMv m = numbers (bitOf (m .«opfl_refine») ∷ bitOf (m .«refine_mv») ∷ bitOf (m .«tip_refine_mv») ∷ bitOf (m .bru) ∷ bitOf (m .«adaptive_mvd») ∷ bitOf (m .«mvd_sign_derive») ∷ bitOf (m .«flex_mvres») ∷ bitOf (m .«global_motion») ∷ bitOf (m .«short_refresh_frame_flags») ∷ [])
+flatMv m =
+    asSigned (bitOf (m .«opfl_refine») ∷ bitOf (m .«refine_mv») ∷ bitOf (m .«tip_refine_mv») ∷ bitOf (m .bru)
+    ∷ bitOf (m .«adaptive_mvd») ∷ bitOf (m .«mvd_sign_derive») ∷ bitOf (m .«flex_mvres»)
+    ∷ bitOf (m .«global_motion») ∷ bitOf (m .«short_refresh_frame_flags») ∷ [])
 
 -- screen content
 abbrev pub flatScreen : Screen → List ℤ
-flatScreen s = numbers (adaptiveNumber (s .«screen_content_tools») ∷ adaptiveNumber (s .«force_integer_mv») ∷ [])
+flatScreen s = asSigned (adaptiveNumber (s .«screen_content_tools») ∷ adaptiveNumber (s .«force_integer_mv») ∷ [])
 
 -- inter tools: the last four
 unfoldable pub flatInter : Inter → List ℤ
@@ -132,17 +154,23 @@ flatInter i = flatDrl (i .drl) ++ flatTip (i .tip) ++ flatMv (i .mv) ++ flatScre
 
 -- transforms
 abbrev pub flatTransform : Transform → List ℤ
-flatTransform t = numbers (bitOf (t .fsc) ∷ bitOf (t .«idtx_intra») ∷ bitOf (getD (t .ist) 0 false) ∷ bitOf (getD (t .ist) 1 false) ∷ bitOf (t .«chroma_dctonly») ∷ bitOf (t .«inter_ddt») ∷ bitOf (t .«reduced_tx_part_set») ∷ bitOf (t .cctx) ∷ [])
+flatTransform t =
+    asSigned (bitOf (t .fsc) ∷ bitOf (t .«idtx_intra») ∷ bitOf (getD (t .ist) 0 false)
+    ∷ bitOf (getD (t .ist) 1 false) ∷ bitOf (t .«chroma_dctonly») ∷ bitOf (t .«inter_ddt»)
+    ∷ bitOf (t .«reduced_tx_part_set») ∷ bitOf (t .cctx) ∷ [])
 
 -- entropy coding
 abbrev pub flatEntropy : Entropy → List ℤ
-flatEntropy e = numbers (adaptiveNumber (e .tcq) ∷ bitOf (e .«parity_hiding») ∷ bitOf (e .«avg_cdf») ∷ e .«avg_cdf_type» ∷ [])
+flatEntropy e =
+    asSigned (adaptiveNumber (e .tcq) ∷ bitOf (e .«parity_hiding») ∷ bitOf (e .«avg_cdf») ∷ e .«avg_cdf_type»
+    ∷ [])
 
 -- quantisation
 unfoldable pub flatQuant : Quant → List ℤ
-flatQuant q = numbers (bitOf (q .«separate_uv_delta_q») ∷ bitOf (q .«equal_ac_dc_q») ∷ [])
+flatQuant q = asSigned (bitOf (q .«separate_uv_delta_q») ∷ bitOf (q .«equal_ac_dc_q») ∷ [])
     ++ (q .«base_ydc_dq» ∷ [])
-    ++ numbers (bitOf (q .«ydc_dq_enabled») ∷ q .«base_uvdc_dq» ∷ bitOf (q .«uvdc_dq_enabled») ∷ q .«base_uvac_dq» ∷ bitOf (q .«uvac_dq_enabled») ∷ [])
+    ++ asSigned (bitOf (q .«ydc_dq_enabled») ∷ q .«base_uvdc_dq» ∷ bitOf (q .«uvdc_dq_enabled»)
+    ∷ q .«base_uvac_dq» ∷ bitOf (q .«uvac_dq_enabled») ∷ [])
 
 -- the residual: the last three
 unfoldable pub flatResidual : Residual → List ℤ
@@ -150,13 +178,13 @@ flatResidual x = flatTransform (x .transform) ++ flatEntropy (x .entropy) ++ fla
 
 -- loop filters
 abbrev pub flatFilters : Filters → List ℤ
-flatFilters f = numbers (bitOf (f .«disable_loopfilters_across_tiles») ∷ bitOf (f .cdef) ∷ bitOf (f .gdf) ∷ bitOf (f .«gdf_unit_matches_sbsz») ∷ bitOf (f .restoration) ∷ getD (f .«rst_disable_mask») 0 0 ∷ getD (f .«rst_disable_mask») 1 0 ∷ bitOf (f .ccso) ∷ bitOf (f .«ccso_unit_matches_sbsz») ∷ adaptiveNumber (f .«cdef_on_skiptx») ∷ f .«df_par_bits» ∷ [])
+flatFilters f =
+    asSigned (bitOf (f .«disable_loopfilters_across_tiles») ∷ bitOf (f .cdef) ∷ bitOf (f .gdf)
+    ∷ bitOf (f .«gdf_unit_matches_sbsz») ∷ bitOf (f .restoration) ∷ getD (f .«rst_disable_mask») 0 0
+    ∷ getD (f .«rst_disable_mask») 1 0 ∷ bitOf (f .ccso) ∷ bitOf (f .«ccso_unit_matches_sbsz»)
+    ∷ adaptiveNumber (f .«cdef_on_skiptx») ∷ f .«df_par_bits» ∷ [])
 
--- tiling
-unfoldable pub flatTiling : SeqTiling → List ℤ
-flatTiling g = numbers (adaptiveNumber (g .present) ∷ []) ++ numbers (flatTileInfo (g .t))
-
--- the whole header, 285 numbers
+-- the whole header without its layout, 146 numbers
 unfoldable pub flatSeqHdr : SequenceHeader → List ℤ
 flatSeqHdr hdr = flatStart (hdr .start)
     ++ flatLevel (hdr .level)
@@ -167,5 +195,4 @@ flatSeqHdr hdr = flatStart (hdr .start)
     ++ flatInter (hdr .inter)
     ++ flatResidual (hdr .residual)
     ++ flatFilters (hdr .filters)
-    ++ flatTiling (hdr .tiling)
-    ++ numbers (bitOf (hdr .«film_grain_present») ∷ [])
+    ++ asSigned (adaptiveNumber (hdr .tiling .present) ∷ bitOf (hdr .«film_grain_present») ∷ [])

@@ -1,12 +1,16 @@
-// A sequence header as flat numbers: each record in the order of its declaration.
+// A sequence header as flat numbers: each record in the order of its declaration. Its layout stands in buffers of its own.
 ghost use mathlib.Core.List.{_++_};
 ghost use mathlib.Core.Path.{_≡_};
 ghost use Prim.Native.Nat.{_+_, _≤_};
 ghost use lib.ListN.{length};
-ghost use Rattle.flat.specs.Layout.{inFront, flatTileInfo};
-ghost use Rattle.flat.specs.Rows.{Written};
-ghost use Rattle.flat_hdr.specs.Header.{numbers, layoutNumber, adaptiveNumber, flatStart, flatLevel, flatFormat, flatLayers, flatSize, flatCrop, flatDependencies, flatPicture, flatPartition, flatSegmentation, flatIntra, flatBlocks, flatMotion, flatRefFrames, flatDrl, flatTip, flatMv, flatScreen, flatInter, flatTransform, flatEntropy, flatQuant, flatResidual, flatFilters, flatTiling, flatSeqHdr};
-use flat::counts;
+ghost use Rattle.flat.specs.Layout.{overFront};
+ghost use Rattle.flat.specs.Rows.{PutAt};
+ghost use Rattle.flat.specs.Segments.{flatMasks};
+ghost use Rattle.flat_hdr.specs.Header.{asSigned, layoutNumber, adaptiveNumber, flatSeqHdr};
+ghost use Rattle.flat_hdr.specs.Header.{flatStart, flatLevel, flatFormat, flatLayers, flatSize, flatCrop, flatDependencies, flatPicture};
+ghost use Rattle.flat_hdr.specs.Header.{flatPartition, flatSegmentation, flatIntra, flatBlocks, flatMotion, flatRefFrames};
+ghost use Rattle.flat_hdr.specs.Header.{flatDrl, flatTip, flatMv, flatScreen, flatInter, flatTransform, flatEntropy, flatQuant, flatResidual, flatFilters};
+use seg_info::SegmentationDataSet;
 use seq_blocks::Blocks;
 use seq_blocks::Intra;
 use seq_blocks::Partition;
@@ -27,7 +31,6 @@ use seq_picture::FrameSize;
 use seq_picture::Layers;
 use seq_picture::Level;
 use seq_picture::Picture;
-use seq_record::SeqTiling;
 use seq_record::SequenceHeader;
 use seq_record::Start;
 use seq_residual::Entropy;
@@ -35,23 +38,15 @@ use seq_residual::Filters;
 use seq_residual::Quant;
 use seq_residual::Residual;
 use seq_residual::Transform;
-use tile_layout::TileInfo;
 
 mod put;
 
 use put::put_bytes;
-use put::put_numbers;
+use put::put_deltas;
 use put::put_one;
 use put::put_signed;
-use put::put_words;
 
-fn wide(x: u8) -> u32
-    ensures { λ r. ⌜ r ≡ x ⌝ }
-{
-    x as u32
-}
-
-fn layout_number(layout: PixelLayout) -> u32
+fn layout_number(layout: PixelLayout) -> u8
     ensures { λ r. ⌜ r ≡ layoutNumber layout ⌝ }
 {
     match layout {
@@ -62,7 +57,7 @@ fn layout_number(layout: PixelLayout) -> u32
     }
 }
 
-fn adaptive_number(a: AdaptiveBoolean) -> u32
+fn adaptive_number(a: AdaptiveBoolean) -> u8
     ensures { λ r. ⌜ r ≡ adaptiveNumber a ⌝ }
 {
     match a {
@@ -74,73 +69,76 @@ fn adaptive_number(a: AdaptiveBoolean) -> u32
 
 fn put_head(out: &mut [i64], at: usize, start: Start, level: Level, format: Format) -> usize
     requires { ⌜ at + 9 ≤ length (now out) ⌝ }
-    ensures { λ r. ⌜ Written (now (out .entry)) at (flatStart start ++ flatLevel level ++ flatFormat format) 9 (now (out .exit)) r ⌝ }
+    ensures { λ r. ⌜ PutAt (now (out .entry)) at (flatStart start ++ flatLevel level ++ flatFormat format) 9 (now (out .exit)) r ⌝ }
 {
     let layout = format.layout;
-    let xs: [u32; 9] = [
-        start.id as u32,
-        start.profile as u32,
-        level.reduced_still_picture_header as u32,
-        level.level as u32,
-        level.tier as u32,
+    let xs: [u8; 9] = [
+        start.id,
+        start.profile,
+        level.reduced_still_picture_header as u8,
+        level.level,
+        level.tier,
         layout_number(layout),
-        format.ss_hor as u32,
-        format.ss_ver as u32,
-        format.hbd as u32,
+        format.ss_hor,
+        format.ss_ver,
+        format.hbd,
     ];
-    put_numbers(&mut *out, at, &xs)
+    put_bytes(&mut *out, at, &xs)
 }
 
 fn put_layers(out: &mut [i64], at: usize, l: Layers) -> usize
     requires { ⌜ at + 5 ≤ length (now out) ⌝ }
-    ensures { λ r. ⌜ Written (now (out .entry)) at (flatLayers l) 5 (now (out .exit)) r ⌝ }
+    ensures { λ r. ⌜ PutAt (now (out .entry)) at (flatLayers l) 5 (now (out .exit)) r ⌝ }
 {
-    let xs: [u32; 5] = [
-        l.lcr_id as u32,
-        l.still_picture as u32,
-        l.max_tlayer_id as u32,
-        l.max_mlayer_id as u32,
-        l.monotonic as u32,
+    let xs: [u8; 5] = [
+        l.lcr_id,
+        l.still_picture as u8,
+        l.max_tlayer_id,
+        l.max_mlayer_id,
+        l.monotonic as u8,
     ];
-    put_numbers(&mut *out, at, &xs)
+    put_bytes(&mut *out, at, &xs)
 }
 
 fn put_size(out: &mut [i64], at: usize, s: FrameSize) -> usize
     requires { ⌜ at + 4 ≤ length (now out) ⌝ }
-    ensures { λ r. ⌜ Written (now (out .entry)) at (flatSize s) 4 (now (out .exit)) r ⌝ }
+    ensures { λ r. ⌜ PutAt (now (out .entry)) at (flatSize s) 4 (now (out .exit)) r ⌝ }
 {
-    let bits: [u32; 2] = [s.width_n_bits as u32, s.height_n_bits as u32];
-    let at = put_numbers(&mut *out, at, &bits);
-    let at = put_one(&mut *out, at, s.max_width);
-    put_one(&mut *out, at, s.max_height)
+    let bits: [u8; 2] = [s.width_n_bits, s.height_n_bits];
+    let at = put_bytes(&mut *out, at, &bits);
+    let at = put_signed(&mut *out, at, s.max_width);
+    put_signed(&mut *out, at, s.max_height)
 }
 
 fn put_crop(out: &mut [i64], at: usize, c: CropInfo) -> usize
     requires { ⌜ at + 5 ≤ length (now out) ⌝ }
-    ensures { λ r. ⌜ Written (now (out .entry)) at (flatCrop c) 5 (now (out .exit)) r ⌝ }
+    ensures { λ r. ⌜ PutAt (now (out .entry)) at (flatCrop c) 5 (now (out .exit)) r ⌝ }
 {
-    let xs: [u32; 5] = [c.enabled as u32, c.left, c.right, c.top, c.bottom];
-    put_numbers(&mut *out, at, &xs)
+    let at = put_one(&mut *out, at, c.enabled as u32);
+    let at = put_one(&mut *out, at, c.left);
+    let at = put_one(&mut *out, at, c.right);
+    let at = put_one(&mut *out, at, c.top);
+    put_one(&mut *out, at, c.bottom)
 }
 
 fn put_dependencies(out: &mut [i64], at: usize, d: Dependencies) -> usize
     requires { ⌜ at + 18 ≤ length (now out) ⌝ }
-    ensures { λ r. ⌜ Written (now (out .entry)) at (flatDependencies d) 18 (now (out .exit)) r ⌝ }
+    ensures { λ r. ⌜ PutAt (now (out .entry)) at (flatDependencies d) 18 (now (out .exit)) r ⌝ }
 {
-    let present: [u32; 2] = [
-        d.tlayer_dependency_present as u32,
-        d.mlayer_dependency_present as u32,
+    let present: [u8; 2] = [
+        d.tlayer_dependency_present as u8,
+        d.mlayer_dependency_present as u8,
     ];
     let tlayer = d.tlayer_dependencies;
     let mlayer = d.mlayer_dependencies;
-    let at = put_numbers(&mut *out, at, &present);
+    let at = put_bytes(&mut *out, at, &present);
     let at = put_bytes(&mut *out, at, &tlayer);
     put_bytes(&mut *out, at, &mlayer)
 }
 
 fn put_picture(out: &mut [i64], at: usize, p: Picture) -> usize
     requires { ⌜ at + 32 ≤ length (now out) ⌝ }
-    ensures { λ r. ⌜ Written (now (out .entry)) at (flatPicture p) 32 (now (out .exit)) r ⌝ }
+    ensures { λ r. ⌜ PutAt (now (out .entry)) at (flatPicture p) 32 (now (out .exit)) r ⌝ }
 {
     let at = put_layers(&mut *out, at, p.layers);
     let at = put_size(&mut *out, at, p.size);
@@ -150,51 +148,59 @@ fn put_picture(out: &mut [i64], at: usize, p: Picture) -> usize
 
 fn put_partition(out: &mut [i64], at: usize, p: Partition) -> usize
     requires { ⌜ at + 6 ≤ length (now out) ⌝ }
-    ensures { λ r. ⌜ Written (now (out .entry)) at (flatPartition p) 6 (now (out .exit)) r ⌝ }
+    ensures { λ r. ⌜ PutAt (now (out .entry)) at (flatPartition p) 6 (now (out .exit)) r ⌝ }
 {
-    let xs: [u32; 6] = [
-        p.sb128 as u32,
-        p.sdp as u32,
-        p.ext_sdp as u32,
-        p.ext_partitions as u32,
-        p.uneven_4way_partitions as u32,
-        p.max_pb_aspect_ratio_log2 as u32,
+    let xs: [u8; 6] = [
+        p.sb128,
+        p.sdp as u8,
+        p.ext_sdp as u8,
+        p.ext_partitions as u8,
+        p.uneven_4way_partitions as u8,
+        p.max_pb_aspect_ratio_log2,
     ];
-    put_numbers(&mut *out, at, &xs)
+    put_bytes(&mut *out, at, &xs)
+}
+
+fn put_masks(out: &mut [i64], at: usize, d: SegmentationDataSet) -> usize
+    requires { ⌜ at + 3 ≤ length (now out) ⌝ }
+    ensures { λ r. ⌜ PutAt (now (out .entry)) at (asSigned (flatMasks d)) 3 (now (out .exit)) r ⌝ }
+{
+    let at = put_one(&mut *out, at, d.delta_q_mask as u32);
+    let at = put_one(&mut *out, at, d.skip_mask as u32);
+    put_one(&mut *out, at, d.globalmv_mask as u32)
 }
 
 fn put_segmentation(out: &mut [i64], at: usize, s: SeqSegmentation) -> usize
     requires { ⌜ at + 22 ≤ length (now out) ⌝ }
-    ensures { λ r. ⌜ Written (now (out .entry)) at (flatSegmentation s) 22 (now (out .exit)) r ⌝ }
+    ensures { λ r. ⌜ PutAt (now (out .entry)) at (flatSegmentation s) 22 (now (out .exit)) r ⌝ }
 {
-    let flags: [u32; 3] = [s.ext as u32, s.info_present as u32, s.adaptive as u32];
+    let flags: [u8; 3] = [s.ext as u8, s.info_present as u8, s.adaptive as u8];
     let d = s.d;
     let delta_q = d.delta_q;
-    let masks = [d.delta_q_mask, d.skip_mask, d.globalmv_mask];
-    let at = put_numbers(&mut *out, at, &flags);
-    let at = put_signed(&mut *out, at, &delta_q);
-    put_words(&mut *out, at, &masks)
+    let at = put_bytes(&mut *out, at, &flags);
+    let at = put_deltas(&mut *out, at, &delta_q);
+    put_masks(&mut *out, at, d)
 }
 
 fn put_intra(out: &mut [i64], at: usize, i: Intra) -> usize
     requires { ⌜ at + 7 ≤ length (now out) ⌝ }
-    ensures { λ r. ⌜ Written (now (out .entry)) at (flatIntra i) 7 (now (out .exit)) r ⌝ }
+    ensures { λ r. ⌜ PutAt (now (out .entry)) at (flatIntra i) 7 (now (out .exit)) r ⌝ }
 {
-    let xs: [u32; 7] = [
-        i.intra_dip as u32,
-        i.intra_edge_filter as u32,
-        i.mrls as u32,
-        i.cfl as u32,
-        i.cfl_ds_filter_index as u32,
-        i.mhccp as u32,
-        i.ibp as u32,
+    let xs: [u8; 7] = [
+        i.intra_dip as u8,
+        i.intra_edge_filter as u8,
+        i.mrls as u8,
+        i.cfl as u8,
+        i.cfl_ds_filter_index,
+        i.mhccp as u8,
+        i.ibp as u8,
     ];
-    put_numbers(&mut *out, at, &xs)
+    put_bytes(&mut *out, at, &xs)
 }
 
 fn put_blocks(out: &mut [i64], at: usize, b: Blocks) -> usize
     requires { ⌜ at + 35 ≤ length (now out) ⌝ }
-    ensures { λ r. ⌜ Written (now (out .entry)) at (flatBlocks b) 35 (now (out .exit)) r ⌝ }
+    ensures { λ r. ⌜ PutAt (now (out .entry)) at (flatBlocks b) 35 (now (out .exit)) r ⌝ }
 {
     let at = put_partition(&mut *out, at, b.partition);
     let at = put_segmentation(&mut *out, at, b.segmentation);
@@ -203,91 +209,91 @@ fn put_blocks(out: &mut [i64], at: usize, b: Blocks) -> usize
 
 fn put_motion(out: &mut [i64], at: usize, motion: Motion, refs: RefFrames) -> usize
     requires { ⌜ at + 12 ≤ length (now out) ⌝ }
-    ensures { λ r. ⌜ Written (now (out .entry)) at (flatMotion motion ++ flatRefFrames refs) 12 (now (out .exit)) r ⌝ }
+    ensures { λ r. ⌜ PutAt (now (out .entry)) at (flatMotion motion ++ flatRefFrames refs) 12 (now (out .exit)) r ⌝ }
 {
-    let xs: [u32; 12] = [
-        motion.motion_modes as u32,
-        motion.frame_motion_modes_present as u32,
-        motion.six_param_warp_delta as u32,
-        motion.masked_compound as u32,
-        motion.ref_frame_mvs as u32,
-        motion.reduced_ref_frame_mvs_mode as u32,
-        motion.order_hint_n_bits as u32,
-        refs.refmv_bank as u32,
-        refs.drl_reorder as u32,
-        refs.explicit_ref_frame_map as u32,
-        refs.ref_frames as u32,
-        refs.ref_frames_log2 as u32,
+    let xs: [u8; 12] = [
+        motion.motion_modes,
+        motion.frame_motion_modes_present as u8,
+        motion.six_param_warp_delta as u8,
+        motion.masked_compound as u8,
+        motion.ref_frame_mvs as u8,
+        motion.reduced_ref_frame_mvs_mode,
+        motion.order_hint_n_bits,
+        refs.refmv_bank as u8,
+        refs.drl_reorder,
+        refs.explicit_ref_frame_map as u8,
+        refs.ref_frames,
+        refs.ref_frames_log2,
     ];
-    put_numbers(&mut *out, at, &xs)
+    put_bytes(&mut *out, at, &xs)
 }
 
 fn put_drl(out: &mut [i64], at: usize, d: Drl) -> usize
     requires { ⌜ at + 6 ≤ length (now out) ⌝ }
-    ensures { λ r. ⌜ Written (now (out .entry)) at (flatDrl d) 6 (now (out .exit)) r ⌝ }
+    ensures { λ r. ⌜ PutAt (now (out .entry)) at (flatDrl d) 6 (now (out .exit)) r ⌝ }
 {
-    let xs: [u32; 6] = [
-        d.number_of_bits_for_lt_frame_id as u32,
-        d.def_max_drl_bits as u32,
-        d.allow_frame_max_drl_bits as u32,
-        d.def_max_bvp_drl_bits as u32,
-        d.allow_max_bvp_drl_bits as u32,
-        d.num_same_ref_comp as u32,
+    let xs: [u8; 6] = [
+        d.number_of_bits_for_lt_frame_id,
+        d.def_max_drl_bits,
+        d.allow_frame_max_drl_bits as u8,
+        d.def_max_bvp_drl_bits,
+        d.allow_max_bvp_drl_bits as u8,
+        d.num_same_ref_comp,
     ];
-    put_numbers(&mut *out, at, &xs)
+    put_bytes(&mut *out, at, &xs)
 }
 
 fn put_tip(out: &mut [i64], at: usize, t: Tip) -> usize
     requires { ⌜ at + 8 ≤ length (now out) ⌝ }
-    ensures { λ r. ⌜ Written (now (out .entry)) at (flatTip t) 8 (now (out .exit)) r ⌝ }
+    ensures { λ r. ⌜ PutAt (now (out .entry)) at (flatTip t) 8 (now (out .exit)) r ⌝ }
 {
-    let xs: [u32; 8] = [
-        t.tip as u32,
-        t.tip_hole_fill as u32,
-        t.mv_traj as u32,
-        t.bawp as u32,
-        t.cwp as u32,
-        t.imp_msk_bld as u32,
-        t.db_sub_pu as u32,
-        t.tip_explicit_qp as u32,
+    let xs: [u8; 8] = [
+        t.tip as u8,
+        t.tip_hole_fill as u8,
+        t.mv_traj as u8,
+        t.bawp as u8,
+        t.cwp as u8,
+        t.imp_msk_bld as u8,
+        t.db_sub_pu as u8,
+        t.tip_explicit_qp as u8,
     ];
-    put_numbers(&mut *out, at, &xs)
+    put_bytes(&mut *out, at, &xs)
 }
 
 fn put_mv(out: &mut [i64], at: usize, m: Mv) -> usize
     requires { ⌜ at + 9 ≤ length (now out) ⌝ }
-    ensures { λ r. ⌜ Written (now (out .entry)) at (flatMv m) 9 (now (out .exit)) r ⌝ }
+    ensures { λ r. ⌜ PutAt (now (out .entry)) at (flatMv m) 9 (now (out .exit)) r ⌝ }
 {
-    let xs: [u32; 9] = [
-        m.opfl_refine as u32,
-        m.refine_mv as u32,
-        m.tip_refine_mv as u32,
-        m.bru as u32,
-        m.adaptive_mvd as u32,
-        m.mvd_sign_derive as u32,
-        m.flex_mvres as u32,
-        m.global_motion as u32,
-        m.short_refresh_frame_flags as u32,
+    let xs: [u8; 9] = [
+        m.opfl_refine as u8,
+        m.refine_mv as u8,
+        m.tip_refine_mv as u8,
+        m.bru as u8,
+        m.adaptive_mvd as u8,
+        m.mvd_sign_derive as u8,
+        m.flex_mvres as u8,
+        m.global_motion as u8,
+        m.short_refresh_frame_flags as u8,
     ];
-    put_numbers(&mut *out, at, &xs)
+    put_bytes(&mut *out, at, &xs)
 }
 
 fn put_screen(out: &mut [i64], at: usize, s: Screen) -> usize
     requires { ⌜ at + 2 ≤ length (now out) ⌝ }
-    ensures { λ r. ⌜ Written (now (out .entry)) at (flatScreen s) 2 (now (out .exit)) r ⌝ }
+    ensures { λ r. ⌜ PutAt (now (out .entry)) at (flatScreen s) 2 (now (out .exit)) r ⌝ }
 {
     let screen_content_tools = s.screen_content_tools;
     let force_integer_mv = s.force_integer_mv;
-    let xs: [u32; 2] = [
+    let xs: [u8; 2] = [
         adaptive_number(screen_content_tools),
         adaptive_number(force_integer_mv),
     ];
-    put_numbers(&mut *out, at, &xs)
+    put_bytes(&mut *out, at, &xs)
 }
 
 fn put_inter(out: &mut [i64], at: usize, i: Inter) -> usize
     requires { ⌜ at + 25 ≤ length (now out) ⌝ }
-    ensures { λ r. ⌜ Written (now (out .entry)) at (flatInter i) 25 (now (out .exit)) r ⌝ }
+    ensures { λ r. ⌜ PutAt (now (out .entry)) at (flatInter i) 25 (now (out .exit)) r ⌝ }
 {
     let at = put_drl(&mut *out, at, i.drl);
     let at = put_tip(&mut *out, at, i.tip);
@@ -297,56 +303,56 @@ fn put_inter(out: &mut [i64], at: usize, i: Inter) -> usize
 
 fn put_transform(out: &mut [i64], at: usize, t: Transform) -> usize
     requires { ⌜ at + 8 ≤ length (now out) ⌝ }
-    ensures { λ r. ⌜ Written (now (out .entry)) at (flatTransform t) 8 (now (out .exit)) r ⌝ }
+    ensures { λ r. ⌜ PutAt (now (out .entry)) at (flatTransform t) 8 (now (out .exit)) r ⌝ }
 {
     let ist = t.ist;
-    let xs: [u32; 8] = [
-        t.fsc as u32,
-        t.idtx_intra as u32,
-        ist[0] as u32,
-        ist[1] as u32,
-        t.chroma_dctonly as u32,
-        t.inter_ddt as u32,
-        t.reduced_tx_part_set as u32,
-        t.cctx as u32,
+    let xs: [u8; 8] = [
+        t.fsc as u8,
+        t.idtx_intra as u8,
+        ist[0] as u8,
+        ist[1] as u8,
+        t.chroma_dctonly as u8,
+        t.inter_ddt as u8,
+        t.reduced_tx_part_set as u8,
+        t.cctx as u8,
     ];
-    put_numbers(&mut *out, at, &xs)
+    put_bytes(&mut *out, at, &xs)
 }
 
 fn put_entropy(out: &mut [i64], at: usize, e: Entropy) -> usize
     requires { ⌜ at + 4 ≤ length (now out) ⌝ }
-    ensures { λ r. ⌜ Written (now (out .entry)) at (flatEntropy e) 4 (now (out .exit)) r ⌝ }
+    ensures { λ r. ⌜ PutAt (now (out .entry)) at (flatEntropy e) 4 (now (out .exit)) r ⌝ }
 {
     let tcq = e.tcq;
-    let xs: [u32; 4] = [
+    let xs: [u8; 4] = [
         adaptive_number(tcq),
-        e.parity_hiding as u32,
-        e.avg_cdf as u32,
-        e.avg_cdf_type as u32,
+        e.parity_hiding as u8,
+        e.avg_cdf as u8,
+        e.avg_cdf_type,
     ];
-    put_numbers(&mut *out, at, &xs)
+    put_bytes(&mut *out, at, &xs)
 }
 
 fn put_quant(out: &mut [i64], at: usize, q: Quant) -> usize
     requires { ⌜ at + 8 ≤ length (now out) ⌝ }
-    ensures { λ r. ⌜ Written (now (out .entry)) at (flatQuant q) 8 (now (out .exit)) r ⌝ }
+    ensures { λ r. ⌜ PutAt (now (out .entry)) at (flatQuant q) 8 (now (out .exit)) r ⌝ }
 {
-    let first: [u32; 2] = [q.separate_uv_delta_q as u32, q.equal_ac_dc_q as u32];
-    let rest: [u32; 5] = [
-        q.ydc_dq_enabled as u32,
-        q.base_uvdc_dq as u32,
-        q.uvdc_dq_enabled as u32,
-        q.base_uvac_dq as u32,
-        q.uvac_dq_enabled as u32,
+    let first: [u8; 2] = [q.separate_uv_delta_q as u8, q.equal_ac_dc_q as u8];
+    let rest: [u8; 5] = [
+        q.ydc_dq_enabled as u8,
+        q.base_uvdc_dq,
+        q.uvdc_dq_enabled as u8,
+        q.base_uvac_dq,
+        q.uvac_dq_enabled as u8,
     ];
-    let at = put_numbers(&mut *out, at, &first);
-    let at = put_one(&mut *out, at, q.base_ydc_dq as i32);
-    put_numbers(&mut *out, at, &rest)
+    let at = put_bytes(&mut *out, at, &first);
+    let at = put_signed(&mut *out, at, q.base_ydc_dq as i32);
+    put_bytes(&mut *out, at, &rest)
 }
 
 fn put_residual(out: &mut [i64], at: usize, x: Residual) -> usize
     requires { ⌜ at + 20 ≤ length (now out) ⌝ }
-    ensures { λ r. ⌜ Written (now (out .entry)) at (flatResidual x) 20 (now (out .exit)) r ⌝ }
+    ensures { λ r. ⌜ PutAt (now (out .entry)) at (flatResidual x) 20 (now (out .exit)) r ⌝ }
 {
     let at = put_transform(&mut *out, at, x.transform);
     let at = put_entropy(&mut *out, at, x.entropy);
@@ -355,53 +361,33 @@ fn put_residual(out: &mut [i64], at: usize, x: Residual) -> usize
 
 fn put_filters(out: &mut [i64], at: usize, f: Filters) -> usize
     requires { ⌜ at + 11 ≤ length (now out) ⌝ }
-    ensures { λ r. ⌜ Written (now (out .entry)) at (flatFilters f) 11 (now (out .exit)) r ⌝ }
+    ensures { λ r. ⌜ PutAt (now (out .entry)) at (flatFilters f) 11 (now (out .exit)) r ⌝ }
 {
     let rst_disable_mask = f.rst_disable_mask;
     let cdef_on_skiptx = f.cdef_on_skiptx;
-    let xs: [u32; 11] = [
-        f.disable_loopfilters_across_tiles as u32,
-        f.cdef as u32,
-        f.gdf as u32,
-        f.gdf_unit_matches_sbsz as u32,
-        f.restoration as u32,
-        wide(rst_disable_mask[0]),
-        wide(rst_disable_mask[1]),
-        f.ccso as u32,
-        f.ccso_unit_matches_sbsz as u32,
+    let xs: [u8; 11] = [
+        f.disable_loopfilters_across_tiles as u8,
+        f.cdef as u8,
+        f.gdf as u8,
+        f.gdf_unit_matches_sbsz as u8,
+        f.restoration as u8,
+        rst_disable_mask[0],
+        rst_disable_mask[1],
+        f.ccso as u8,
+        f.ccso_unit_matches_sbsz as u8,
         adaptive_number(cdef_on_skiptx),
-        f.df_par_bits as u32,
+        f.df_par_bits,
     ];
-    put_numbers(&mut *out, at, &xs)
-}
-
-fn put_layout(out: &mut [i64], at: usize, t: TileInfo) -> usize
-    requires { ⌜ at + 139 ≤ length (now out) ⌝ }
-    ensures { λ r. ⌜ Written (now (out .entry)) at (numbers (flatTileInfo t)) 139 (now (out .exit)) r ⌝ }
-{
-    let counts = counts(t);
-    let col_start_sb = t.col_start_sb;
-    let row_start_sb = t.row_start_sb;
-    let at = put_words(&mut *out, at, &counts);
-    let at = put_words(&mut *out, at, &col_start_sb);
-    put_words(&mut *out, at, &row_start_sb)
-}
-
-fn put_tiling(out: &mut [i64], at: usize, g: SeqTiling) -> usize
-    requires { ⌜ at + 140 ≤ length (now out) ⌝ }
-    ensures { λ r. ⌜ Written (now (out .entry)) at (flatTiling g) 140 (now (out .exit)) r ⌝ }
-{
-    let present = g.present;
-    let present: [u32; 1] = [adaptive_number(present)];
-    let at = put_numbers(&mut *out, at, &present);
-    put_layout(&mut *out, at, g.t)
+    put_bytes(&mut *out, at, &xs)
 }
 
 fn put_header(out: &mut [i64], at: usize, hdr: SequenceHeader) -> usize
-    requires { ⌜ at + 285 ≤ length (now out) ⌝ }
-    ensures { λ r. ⌜ Written (now (out .entry)) at (flatSeqHdr hdr) 285 (now (out .exit)) r ⌝ }
+    requires { ⌜ at + 146 ≤ length (now out) ⌝ }
+    ensures { λ r. ⌜ PutAt (now (out .entry)) at (flatSeqHdr hdr) 146 (now (out .exit)) r ⌝ }
 {
-    let grain: [u32; 1] = [hdr.film_grain_present as u32];
+    let tiling = hdr.tiling;
+    let present = tiling.present;
+    let last: [u8; 2] = [adaptive_number(present), hdr.film_grain_present as u8];
     let at = put_head(&mut *out, at, hdr.start, hdr.level, hdr.format);
     let at = put_picture(&mut *out, at, hdr.picture);
     let at = put_blocks(&mut *out, at, hdr.blocks);
@@ -409,14 +395,13 @@ fn put_header(out: &mut [i64], at: usize, hdr: SequenceHeader) -> usize
     let at = put_inter(&mut *out, at, hdr.inter);
     let at = put_residual(&mut *out, at, hdr.residual);
     let at = put_filters(&mut *out, at, hdr.filters);
-    let at = put_tiling(&mut *out, at, hdr.tiling);
-    put_numbers(&mut *out, at, &grain)
+    put_bytes(&mut *out, at, &last)
 }
 
 pub fn put_seq_hdr(hdr: SequenceHeader, out: &mut [i64])
-    ensures { λ _. ⌜ now (out .exit) ≡ inFront 285 (flatSeqHdr hdr) (now (out .entry)) ⌝ }
+    ensures { λ _. ⌜ now (out .exit) ≡ overFront 146 (flatSeqHdr hdr) (now (out .entry)) ⌝ }
 {
-    if out.len() < 285 {
+    if out.len() < 146 {
         return;
     }
     put_header(&mut *out, 0, hdr);

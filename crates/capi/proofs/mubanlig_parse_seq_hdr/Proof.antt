@@ -1,31 +1,57 @@
 -- `capi::mubanlig_parse_seq_hdr` meets its contract. Assumes nothing.
-use mathlib.Core.Path.{refl, sym, _∙_}
+use mathlib.Core.Bool.{true}
+use mathlib.Core.Path.{_≡_, refl, sym, _∙_}
 use borrow.Author.Needs.{needs}
-use borrow.Author.Tests.{le-leb, lt-leb}
+use borrow.Author.Tests.{le-leb, lt-leb, not-true, not-false}
+use lib.Dec.{leb}
 use lib.ListN.{length}
 use Rattle.getbits.proofs.Chain.{through, taken, left}
-use Rattle.capi.specs.Outcomes.{headerOutcome}
-use Rattle.capi.proofs.Handed.{handed-back, and-buffer}
+use Rattle.flat.specs.Layout.{Buffers, buffers, hasRoom}
+use Rattle.capi.specs.Calls.{lentHeader}
+use Rattle.capi.proofs.Left.{row, triple, first-fails, second-fails, both-hold, contrary, header-left}
 use Rattle.capi.proofs.mubanlig_parse_seq_hdr.Statement.{statement}
 use Rattle.capi.proofs.mubanlig_parse_seq_hdr.Tie as tie
 
+-- the buffers lent
+abbrev given : tie.Start → Buffers
+given s = buffers (s .args .info .now) (s .args .col-start-sb .now) (s .args .row-start-sb .now)
+
 returns : tie.Need-returns
-unfolding headerOutcome
-returns c = sym (left _ _ _ (lt-leb 285 (length (c .before .before .args .hdr .now)) (c .if1 .taken)))
+unfolding lentHeader
+returns c =
+    let s = c .before .before .before .before .before in
+    let fails = first-fails _ (hasRoom (given s)) (lt-leb 146 (length (s .args .hdr .now)) (c .if1 .taken)) in
+    (sym (left _ _ _ fails), (λ _. refl, (λ _. refl, (λ _. refl, (λ _. refl, λ h. absurd (h refl))))))
 
 returns-2 : tie.Need-returns-2
-unfolding headerOutcome
+unfolding lentHeader
 returns-2 c =
-    let h = c .before .before in
+    let s = c .before .before .before .before .before .before .before .before .before .before in
+    let lacks = sym (c .before .has-room .ensures) ∙ not-true (c .before .has-room .result) (c .if2 .taken) in
+    let fails = second-fails (leb 146 (length (s .args .hdr .now))) _ lacks in
+    (sym (left _ _ _ fails), (λ _. refl, (λ _. refl, (λ _. refl, (λ _. refl, λ h. absurd (h refl))))))
+
+returns-3 : tie.Need-returns-3
+unfolding lentHeader
+returns-3 c =
+    let t = c .before .before .before .before .before .before .before in
+    let h = t .before .before .before .before .before in
     let q = h .before .before in
-    let r = q .before .before .before .before in
-    let p = r .before in
-    let i = p .before .before .before .before in
-    let a = i .before .before .args in
+    let r = q .before .before .before in
+    let p = r .before .before in
+    let k = p .before .before .before in
+    let i = k .before .before .before .before .before in
+    let s = i .before .before .before .before .before in
+    let a = s .args in
     let x = r .parse-seq-hdr .result in
-    let read = rw (p .place .ensures) at (r .parse-seq-hdr .ensures .0) in
-    and-buffer (handed-back (x .answer) (x .next) (c .number .ensures) (q .put-place .ensures) refl) (h .put-seq-hdr .ensures)
-    ∙ sym (taken _ _ _ (le-leb 285 (length (a .hdr .now)) (i .if1 .left)) ∙ through _ _ read)
+    let put = t .put-tile-info .ensures in
+    let has : hasRoom (given s) ≡ true = sym (k .before .has-room .ensures) ∙ not-false (k .before .has-room .result) (k .if2 .left) in
+    let read = rw (p .place-of .ensures, r .before .is-set .ensures) at (r .parse-seq-hdr .ensures .0) in
+    let layout = rw (p .place-of .ensures) at (r .parse-seq-hdr .ensures .1) in
+    let room = both-hold _ _ (le-leb 146 (length (a .hdr .now)) (i .if1 .left)) has in (
+      triple (row (x .answer) (x .next) (a .error .now) (c .number .ensures) (q .put-place .ensures)) (h .put-seq-hdr .ensures) (put .0) ∙ sym (taken _ _ _ room ∙ through _ _ read),
+      (λ e. contrary room e, (λ e. contrary room e, (λ e. contrary room e, (λ e. contrary room e, λ _. header-left x (c .number .result) _ (c .number .ensures) (put .1 has) layout)))),
+    )
 
 pub mubanlig-parse-seq-hdr-spec : {M : Type 1} → statement M
 mubanlig-parse-seq-hdr-spec =
@@ -33,9 +59,19 @@ mubanlig-parse-seq-hdr-spec =
     (tie.spec
     returns
     (λ c κs. search needs)
+    (λ c. search needs)
+    (λ c. search needs)
+    (λ c. search needs)
+    returns-2
+    (λ c κs. search needs)
+    (λ c κs. search needs)
+    (λ c κs. search needs)
     (λ c κs. search needs)
     (λ c κs. search needs)
     (λ c κs. search needs)
     (λ c κs. search needs)
     (λ c. search needs)
-    returns-2)
+    (λ c. search needs)
+    (λ c. search needs)
+    (λ c. search needs)
+    returns-3)

@@ -1,74 +1,174 @@
 -- `capi::mubanlig_parse_tile_info_frmhdr` meets its contract. Assumes nothing.
-use mathlib.Core.List.{List, _∷_}
-use mathlib.Core.Path.{refl, sym, ap, _∙_}
-use Prim.Native.Nat.{ℕ}
+use mathlib.Core.Bool.{true, false, _&&_}
+use mathlib.Core.Path.{_≡_, refl, sym, ap, subst, _∙_}
 use native.Mathlib.Omega.{arith}
 use borrow.Author.Needs.{needs}
-use borrow.Author.Tests.{le-leb, lt-leb, not-true, not-false}
-use lib.ListN.{length}
+use borrow.Author.Tests.{not-true, not-false}
 use mir.Facts.{toZ-ofZ}
+use Rattle.answers.specs.Numbers.{isRefusal}
 use Rattle.answers.specs.declared.Answer.the-variants.{WrongArguments}
 use Rattle.getbits.proofs.Callers.{as-read, read-none}
-use Rattle.getbits.proofs.Chain.{through, taken, left}
+use Rattle.getbits.proofs.Chain.{through, taken, left, both}
+use Rattle.getbits.specs.Chain.{pick}
 use Rattle.getbits.specs.declared.Number.{Number}
 use Rattle.getbits.specs.declared.Place.{Place}
-use Rattle.capi.specs.Outcomes.{handBack, frameOutcome}
-use Rattle.capi.proofs.Handed.{handed-back, two-long}
+use Rattle.lent.specs.Lent.{placeOf}
+use Rattle.frame_hdr.proofs.Fresh.{fresh-demand-3}
+use Rattle.frame_hdr.specs.Frame.{FreshDemand3, parseTileInfoFrmhdr}
+use Rattle.frame_hdr.specs.declared.FrameHeader.{FrameHeader}
+use Rattle.frame_hdr.specs.declared.SeqLayout.{SeqLayout}
+use Rattle.flat.specs.Layout.{Buffers, buffers, hasRoom, putLayout, layoutIn}
+use Rattle.capi.specs.Calls.{answered, isKnown, frameTypeOf, presentOf, lentFrame}
+use Rattle.capi.proofs.Left.{row, triple, first-fails, second-fails, both-hold, contrary, accepted-0, demand3-left}
 use Rattle.capi.proofs.mubanlig_parse_tile_info_frmhdr.Statement.{statement}
 use Rattle.capi.proofs.mubanlig_parse_tile_info_frmhdr.Tie as tie
 
+-- the buffers lent, and the records in them
+abbrev own : tie.Start → Buffers
+own s = buffers (s .args .info .now) (s .args .col-start-sb .now) (s .args .row-start-sb .now)
+
+abbrev theirs : tie.Start → Buffers
+theirs s = buffers (s .args .seq-info .now) (s .args .seq-col-start-sb .now) (s .args .seq-row-start-sb .now)
+
+abbrev header : tie.Start → FrameHeader
+header s = record { «frame_type» = frameTypeOf (s .args .frame-type); width = s .args .width; height = s .args .height; sb128 = s .args .sb128 .now; tiling = layoutIn (own s) }
+
+abbrev sequence : tie.Start → SeqLayout
+sequence s =
+    record {
+      sb128 = s .args .seq-sb128;
+      «max_width» = s .args .max-width;
+      «max_height» = s .args .max-height;
+      level = s .args .level;
+      tier = s .args .tier;
+      present = presentOf (s .args .present);
+      t = layoutIn (theirs s);
+    }
+
+abbrev place : tie.Start → Place
+place s = placeOf (s .args .position .now) (s .args .error .now)
+
+abbrev start : tie.After-frame-layout → tie.Start
+start k = k .before .before .before .before .before .before .before .before .before .before .before .before .before .before .before .before .before .before .before .before .before .before .before .before .before .before .before .before
+
+-- the buffers have room
+roomy : (k : tie.Else2) → hasRoom (own (k .before .before .before .before .before .before .before .before .before .before .before .before .before .before)) && hasRoom (theirs (k .before .before .before .before .before .before .before .before .before .before .before .before .before .before)) ≡ true
+roomy k =
+    let e = k .before .before in
+    both-hold _ _ (sym (e .before .has-room .ensures) ∙ not-false (e .before .has-room .result) (e .if1 .left))
+    (sym (k .before .has-room2 .ensures) ∙ not-false (k .before .has-room2 .result) (k .if2 .left))
+
+known : (k : tie.After-frame-layout) → isKnown (start k .args .frame-type) (start k .args .present) ≡ true
+known k =
+    let e = k .before .before .before .before .before .before .before .before .before in
+    sym (e .before .is-known .ensures) ∙ not-false (e .before .is-known .result) (e .if3 .left)
+
+read : (k : tie.After-frame-layout) → k .frame-layout .result ≡ parseTileInfoFrmhdr (start k .args .s .now) (place (start k)) (header (start k)) (sequence (start k))
+read k =
+    let s = start k in
+    let t = k .before .before .before .before .before .before in
+    rw (toZ-ofZ (s .fits .width), toZ-ofZ (s .fits .height), toZ-ofZ (s .fits .max-width), toZ-ofZ (s .fits .max-height), k .before .before .before .before .before .before .before .before .before .before .before .place-of .ensures, k .before .before .tile-info-of2 .ensures, t .tile-info-of .ensures, t .before .present-of .ensures, t .before .before .frame-type-of .ensures) at (k .frame-layout .ensures .0)
+
+demand : (k : tie.After-frame-layout) → FreshDemand3 (start k .args .s .now) (place (start k)) (header (start k)) (sequence (start k)) (k .frame-layout .result)
+demand k =
+    let s = start k in
+    subst (FreshDemand3 (s .args .s .now) (place s) (header s) (sequence s)) (sym (read k)) (fresh-demand-3 (s .args .s .now) (place s) (header s) (sequence s))
+
+-- what the definition says, once the layout is read
+meaning : (k : tie.After-frame-layout)
+    → lentFrame (start k .args .s .now) (start k .args .position .now) (start k .args .error .now) (own (start k)) (theirs (start k)) (isKnown (start k .args .frame-type) (start k .args .present)) (header (start k)) (sequence (start k))
+    ≡ (
+      answered (k .frame-layout .result .answer) (k .frame-layout .result .next) (start k .args .error .now),
+      pick (isRefusal (k .frame-layout .result .answer)) (start k .args .sb128 .now) (k .frame-layout .result .hdr .sb128),
+      pick (isRefusal (k .frame-layout .result .answer)) (own (start k)) (putLayout (k .frame-layout .result .hdr .tiling) (own (start k))),
+    )
+unfolding lentFrame
+meaning k = taken _ _ _ (roomy (k .before .before .before .before .before .before .before .before .before .before .before .before .before .before)) ∙ taken _ _ _ (known k) ∙ through _ _ (read k)
+
 returns : tie.Need-returns
-unfolding frameOutcome
-returns c = rw (lt-leb 139 (length (c .before .before .before .before .args .tiling .now)) (c .if1 .taken))
+unfolding lentFrame
+returns c =
+    let lacks = sym (c .before .has-room .ensures) ∙ not-true (c .before .has-room .result) (c .if1 .taken) in
+    let fails = first-fails _ (hasRoom (theirs (c .before .before .before .before .before .before .before .before .before .before .before .before))) lacks in
+    (sym (left _ _ _ fails), (λ _. refl, (λ _. refl, (λ _. refl, (λ _. refl, λ h _. contrary h fails)))))
 
 returns-2 : tie.Need-returns-2
-unfolding frameOutcome
+unfolding lentFrame
 returns-2 c =
-    let a = c .before .before .before .before .before .args in
-    rw (le-leb 139 (length (a .tiling .now)) (c .before .if1 .left), lt-leb 139 (length (a .seq-tiling .now)) (c .if2 .taken))
+    let lacks = sym (c .before .has-room2 .ensures) ∙ not-true (c .before .has-room2 .result) (c .if2 .taken) in
+    let fails = second-fails (hasRoom (own (c .before .before .before .before .before .before .before .before .before .before .before .before .before .before))) _ lacks in
+    (sym (left _ _ _ fails), (λ _. refl, (λ _. refl, (λ _. refl, (λ _. refl, λ h _. contrary h fails)))))
 
 returns-3 : tie.Need-returns-3
-unfolding frameOutcome
+unfolding lentFrame
 returns-3 c =
-    let b = c .before .before .before .before in
-    let i = b .before .before in
+    let r = c .before .before .before in
+    let b = r .before in
+    let i = b .before in
     let p = i .before in
-    let k = p .before .before .before .before in
-    let a = k .before .before .before .before .before .args in
-    let here = ap (λ (r : Number). r .next) (as-read (a .s .now) (p .place .result) 0 (omega arith) (b .read-bits .ensures) ∙ read-none (a .s .now) (p .place .result)) in
-    handed-back WrongArguments (b .read-bits .result .next) refl (c .put-place .ensures) refl
-    ∙ ap (λ (q : Place). handBack WrongArguments q (a .sb128 .now ∷ a .tiling .now)) (rw (p .place .ensures) at here)
-    ∙ sym (taken _ _ _ (two-long 139 139 (length (a .tiling .now)) (length (a .seq-tiling .now)) (k .before .if1 .left) (k .if2 .left)) ∙ left _ _ _ (sym (i .is-known .ensures) ∙ not-true (i .is-known .result) (b .before .if3 .taken)))
+    let k = p .before .before .before in
+    let s = k .before .before .before .before .before .before .before .before .before .before .before .before .before .before in
+    let a = s .args in
+    let unknown = sym (i .is-known .ensures) ∙ not-true (i .is-known .result) (b .if3 .taken) in
+    let here = ap (λ (r : Number). r .next) (as-read (a .s .now) (p .place-of .result) 0 (omega arith) (r .read-bits .ensures) ∙ read-none (a .s .now) (p .place-of .result)) in (
+      triple (row WrongArguments (r .read-bits .result .next) (a .error .now) refl (c .put-place .ensures) ∙ ap (λ (q : Place). answered WrongArguments q (a .error .now)) (rw (p .place-of .ensures) at here)) refl refl
+          ∙ sym (taken _ _ _ (roomy k) ∙ left _ _ _ unknown),
+      (λ _. refl, (λ _. refl, (λ _. refl, (λ _. refl, λ _ h. contrary h unknown)))),
+    )
 
 returns-4 : tie.Need-returns-4
-unfolding frameOutcome
 returns-4 c =
-    let t = c .before .before .before in
-    let q = t .before .before in
-    let r = q .before .before .before .before .before in
-    let m = r .before .before in
-    let n = m .before .before in
-    let f = n .before .before in
-    let i = f .before .before in
-    let p = i .before in
-    let k = p .before .before .before .before in
-    let s = k .before .before .before .before .before in
-    let a = s .args in
-    let x = r .frame-layout .result in
-    let read = rw (toZ-ofZ (s .fits .width), toZ-ofZ (s .fits .height), toZ-ofZ (s .fits .max-width), toZ-ofZ (s .fits .max-height), p .place .ensures, m .tile-info-of2 .ensures, n .tile-info-of .ensures, n .before .present-of .ensures, f .frame-type-of .ensures) at (r .frame-layout .ensures .0) in
-    handed-back (x .answer) (x .next) (c .number .ensures) (q .put-place2 .ensures) (ap (λ (l : List ℕ). x .hdr .sb128 ∷ l) (t .put-tile-info .ensures))
-    ∙ sym (taken _ _ _ (two-long 139 139 (length (a .tiling .now)) (length (a .seq-tiling .now)) (k .before .if1 .left) (k .if2 .left)) ∙ taken _ _ _ (sym (i .is-known .ensures) ∙ not-false (i .is-known .result) (f .before .if3 .left)) ∙ through _ _ read)
+    let q = c .before .before .before in
+    let k = q .before .before .before .before in
+    let s = start k in
+    let x = k .frame-layout .result in
+    let refused : isRefusal (x .answer) ≡ true = sym (c .before .before .is-refusal .ensures) ∙ c .before .if4 .taken in (
+      triple (row (x .answer) (x .next) (s .args .error .now) (c .number .ensures) (q .put-place2 .ensures))
+          (sym (taken (isRefusal (x .answer)) (s .args .sb128 .now) (x .hdr .sb128) refused))
+          (sym (taken (isRefusal (x .answer)) (own s) (putLayout (x .hdr .tiling) (own s)) refused))
+          ∙ sym (meaning k),
+      (λ _. refl, (λ _. refl, (λ _. refl, (λ _. refl, λ _ _ d f. demand3-left (record { answer = x .answer; info = x .hdr .tiling; next = x .next }) (c .number .result) (own s) (c .number .ensures) (λ h. contrary refused h) (demand k d f))))),
+    )
+
+returns-5 : tie.Need-returns-5
+returns-5 c =
+    let t = c .before .before .before .before .before .before in
+    let e = t .before .before .before .before in
+    let q = e .before .before in
+    let k = q .before .before .before .before in
+    let s = start k in
+    let x = k .frame-layout .result in
+    let put = t .put-tile-info .ensures in
+    let fine : isRefusal (x .answer) ≡ false = sym (e .before .is-refusal .ensures) ∙ e .if4 .left in
+    let room = both (hasRoom (own s)) (hasRoom (theirs s)) (roomy (k .before .before .before .before .before .before .before .before .before .before .before .before .before .before)) .0 in (
+      triple (row (x .answer) (x .next) (s .args .error .now) (accepted-0 (x .answer) fine) (q .put-place2 .ensures))
+          (sym (left (isRefusal (x .answer)) (s .args .sb128 .now) (x .hdr .sb128) fine))
+          (put .0 ∙ sym (left (isRefusal (x .answer)) (own s) (putLayout (x .hdr .tiling) (own s)) fine))
+          ∙ sym (meaning k),
+      (λ h. absurd (h refl), (λ h. absurd (h refl), (λ h. absurd (h refl), (λ h. absurd (h refl), λ _ _ d f. demand3-left (record { answer = x .answer; info = x .hdr .tiling; next = x .next }) 0 _ (accepted-0 (x .answer) fine) (λ _. put .1 room) (demand k d f))))),
+    )
 
 pub mubanlig-parse-tile-info-frmhdr-spec : {M : Type 1} → statement M
 mubanlig-parse-tile-info-frmhdr-spec =
     tie.close
     (tie.spec
+    (λ c κs. search needs)
+    (λ c. search needs)
+    (λ c. search needs)
+    (λ c. search needs)
     returns
+    (λ c κs. search needs)
+    (λ c. search needs)
+    (λ c. search needs)
+    (λ c. search needs)
     returns-2
     (λ c κs. search needs)
     (λ c κs. search needs)
     (λ c κs. search needs)
     (λ c κs. search needs)
+    (λ c. search needs)
+    (λ c. search needs)
+    (λ c. search needs)
     returns-3
     (λ c κs. search needs)
     (λ c κs. search needs)
@@ -79,4 +179,11 @@ mubanlig-parse-tile-info-frmhdr-spec =
     (λ c κs. search needs)
     (λ c κs. search needs)
     (λ c. search needs)
-    returns-4)
+    (λ c. search needs)
+    (λ c. search needs)
+    returns-4
+    (λ c κs. search needs)
+    (λ c. search needs)
+    (λ c. search needs)
+    (λ c. search needs)
+    returns-5)

@@ -1,10 +1,12 @@
 -- `flat::put_tile_info` meets its contract. Assumes nothing.
-use mathlib.Core.Path.{_≡_, sym, _∙_}
-use native.Mathlib.Omega.{arith}
+use mathlib.Core.Bool.{true}
+use mathlib.Core.Path.{_≡_, sym, ap, subst, _∙_}
 use borrow.Author.Needs.{needs}
+use lib.Dec.{T}
 use lib.ListN.{length, length-map}
-use Rattle.flat.proofs.Rows.{both, fronted, kept}
-use Rattle.flat.specs.Layout.{flatTileInfo}
+use Rattle.getbits.proofs.Chain.{taken, left}
+use Rattle.flat.specs.Layout.{Buffers, buffers, hasRoom, putLayout, layoutIn}
+use Rattle.flat.proofs.Room.{Room, room, comes-back}
 use Rattle.flat.proofs.put_tile_info.Statement.{statement}
 use Rattle.flat.proofs.put_tile_info.Tie as tie
 
@@ -14,41 +16,62 @@ cols-length s = sym (length-map (s .args .t .«col_start_sb») (λ x. x)) ∙ s 
 rows-length : (s : tie.Start) → length (s .args .t .«row_start_sb») ≡ 65
 rows-length s = sym (length-map (s .args .t .«row_start_sb») (λ x. x)) ∙ s .good .0 .1 .1 .1 .1 .1 .1 .1 .1 .1 .1 .1 .1 .0 .1 .0 .1
 
+-- the buffers lent
+abbrev given : tie.Start → Buffers
+given s = buffers (s .args .info .now) (s .args .cols .now) (s .args .rows .now)
+
+has : (k : tie.Then1) → hasRoom (given (k .before .before .before .before .before .before .before .before)) ≡ true
+has k = sym (k .before .has-room .ensures) ∙ k .if1 .taken
+
+roomy : (k : tie.Then1) → Room (given (k .before .before .before .before .before .before .before .before))
+roomy k = room (given (k .before .before .before .before .before .before .before .before)) (has k)
+
+put-bytes-requires : tie.Need-put-bytes-requires
+put-bytes-requires c κs = roomy (c .before .before .before) .bytes
+
+copy-starts-requires : tie.Need-copy-starts-requires
+copy-starts-requires c κs =
+    let k = c .before .before .before .before .before .before .before .before in
+    (roomy k .cols, cols-length (k .before .before .before .before .before .before .before .before))
+
+copy-starts-requires-2 : tie.Need-copy-starts-requires-2
+copy-starts-requires-2 c κs =
+    let k = c .before .before .before .before .before .before .before .before .before .before .before .before .before in
+    (roomy k .rows, rows-length (k .before .before .before .before .before .before .before .before))
+
 returns : tie.Need-returns
-returns c = kept 139 (flatTileInfo (c .before .before .args .t)) (c .before .before .args .out .now) (c .if1 .taken)
-
-copy-words-requires-2 : tie.Need-copy-words-requires-2
-copy-words-requires-2 c κs = omega (arith, cols-length (c .before .before .before .before .before .before .before .before .before .before .before .before))
-
-copy-words-requires-3 : tie.Need-copy-words-requires-3
-copy-words-requires-3 c κs =
-    let s = c .before .before .before .before .before .before .before .before .before .before .before .before .before .before .before .before .before in
-    omega (arith, cols-length s, rows-length s)
+unfolding putLayout
+returns c =
+    let r = c .before .before in
+    let q = r .before .before .before .before .before in
+    let i = q .before .before .before .before .before in
+    let k = i .before .before .before .before in
+    let s = k .before .before .before .before .before .before .before .before in
+    let put : buffers (i .put-bytes .last .1 .0) (q .copy-starts .last .0) (r .copy-starts2 .last .0) ≡ putLayout (s .args .t) (given s) =
+    rw (i .put-bytes .ensures, q .copy-starts .ensures, r .copy-starts2 .ensures) (sym (taken _ _ _ (has k))) in
+    (put, λ h. ap layoutIn put ∙ comes-back (s .args .t) (given s) (cols-length s) (rows-length s) h)
 
 returns-2 : tie.Need-returns-2
+unfolding putLayout
 returns-2 c =
-    let k3 = c .before .before in
-    let k2 = k3 .before .before .before .before .before in
-    let k1 = k2 .before .before .before .before .before in
-    let k0 = k1 .before .before .before .before .before in
-    let s = k0 .before .before .before in
-    let room = k0 .before .if1 .left in
-    let w1 = rw (k0 .counts .ensures) at (k1 .copy-words .ensures) in
-    let w2 = rw (cols-length s) at (k2 .copy-words2 .ensures) in
-    let w3 = rw (rows-length s) at (k3 .copy-words3 .ensures) in
-    fronted (both (both w1 w2 (omega (arith, room))) w3 (omega (arith, room))) room
+    let lacks = sym (c .before .has-room .ensures) ∙ c .if1 .left in
+    (sym (left _ _ _ lacks), λ h. absurd (subst T (sym h ∙ lacks) tt))
 
 pub put-tile-info-spec : {M : Type 1} → statement M
 put-tile-info-spec =
     tie.close
     (tie.spec
+    (λ c κs. search needs)
+    put-bytes-requires
+    (λ c. search needs)
+    copy-starts-requires
+    (λ c. search needs)
+    copy-starts-requires-2
+    (λ c. search needs)
+    (λ c. search needs)
+    (λ c. search needs)
     returns
-    (λ c κs. search needs)
     (λ c. search needs)
-    (λ c κs. search needs)
     (λ c. search needs)
-    copy-words-requires-2
-    (λ c. search needs)
-    copy-words-requires-3
     (λ c. search needs)
     returns-2)

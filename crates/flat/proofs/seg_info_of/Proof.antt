@@ -25,7 +25,7 @@ returns-3 c =
     let d = c .before .before .before in
     let k = d .before .before in
     let a = k .before .before .args in
-    rw (d .deltas .ensures) (sym (taken _ _ _ (le-leb 16 (length (a .delta-q .now)) (k .if1 .left)) ∙ taken _ _ _ (le-leb 3 (length (a .masks .now)) (d .before .if2 .left))))
+    rw (d .deltas-of .ensures) (sym (taken _ _ _ (le-leb 16 (length (a .delta-q .now)) (k .if1 .left)) ∙ taken _ _ _ (le-leb 3 (length (a .masks .now)) (d .before .if2 .left))))
 
 pub seg-info-of-spec : {M : Type 1} → statement M
 seg-info-of-spec =

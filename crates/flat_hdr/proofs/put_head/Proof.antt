@@ -4,7 +4,15 @@ use Rattle.flat_hdr.proofs.put_head.Statement.{statement}
 use Rattle.flat_hdr.proofs.put_head.Tie as tie
 
 returns : tie.Need-returns
-returns c = rw (c .before .before .before .before .before .before .before .layout-number .ensures) at (c .before .put-numbers .ensures)
+returns c = rw (c .before .before .before .before .layout-number .ensures) at (c .before .put-bytes .ensures)
 
 pub put-head-spec : {M : Type 1} → statement M
-put-head-spec = tie.close (tie.spec (λ c. search needs) (λ c. search needs) (λ c. search needs) (λ c. search needs) (λ c. search needs) (λ c κs. search needs) (λ c. search needs) (λ c. search needs) (λ c. search needs) (λ c. search needs) (λ c κs. search needs) (λ c. search needs) returns)
+put-head-spec =
+    tie.close
+    (tie.spec
+    (λ c. search needs)
+    (λ c κs. search needs)
+    (λ c. search needs)
+    (λ c κs. search needs)
+    (λ c. search needs)
+    returns)

@@ -9,16 +9,16 @@ use Rattle.flat_hdr.proofs.put_header.Tie as tie
 returns : tie.Need-returns
 unfolding flatSeqHdr
 returns c =
-    let k9 = c .before in
-    let k8 = k9 .before .before .before .before in
-    let k7 = k8 .before .before .before in
+    let k8 = c .before in
+    let k7 = k8 .before .before .before .before in
     let k6 = k7 .before .before .before in
     let k5 = k6 .before .before .before in
     let k4 = k5 .before .before .before in
     let k3 = k4 .before .before .before in
     let k2 = k3 .before .before .before in
     let k1 = k2 .before .before .before in
-    let room = k1 .before .before .before .pre in
+    let n = k1 .before .before .before in
+    let room = n .before .before .pre in
     let w1 = k1 .put-head .ensures in
     let w2 = both w1 (k2 .put-picture .ensures) (omega (arith, room)) in
     let w3 = both w2 (k3 .put-blocks .ensures) (omega (arith, room)) in
@@ -26,8 +26,22 @@ returns c =
     let w5 = both w4 (k5 .put-inter .ensures) (omega (arith, room)) in
     let w6 = both w5 (k6 .put-residual .ensures) (omega (arith, room)) in
     let w7 = both w6 (k7 .put-filters .ensures) (omega (arith, room)) in
-    let w8 = both w7 (k8 .put-tiling .ensures) (omega (arith, room)) in
-    both w8 (k9 .put-numbers .ensures) (omega (arith, room))
+    both w7 (rw (n .adaptive-number .ensures) at (k8 .put-bytes .ensures)) (omega (arith, room))
 
 pub put-header-spec : {M : Type 1} → statement M
-put-header-spec = tie.close (tie.spec (λ c. search needs) (λ c κs. search needs) (λ c κs. search needs) (λ c κs. search needs) (λ c κs. search needs) (λ c κs. search needs) (λ c κs. search needs) (λ c κs. search needs) (λ c κs. search needs) (λ c. search needs) (λ c κs. search needs) (λ c. search needs) returns)
+put-header-spec =
+    tie.close
+    (tie.spec
+    (λ c κs. search needs)
+    (λ c. search needs)
+    (λ c κs. search needs)
+    (λ c κs. search needs)
+    (λ c κs. search needs)
+    (λ c κs. search needs)
+    (λ c κs. search needs)
+    (λ c κs. search needs)
+    (λ c κs. search needs)
+    (λ c. search needs)
+    (λ c κs. search needs)
+    (λ c. search needs)
+    returns)

@@ -11,20 +11,32 @@ use Rattle.flat_hdr.proofs.put_segmentation.Tie as tie
 delta-length : (s : tie.Start) → length (s .args .s .d .«delta_q») ≡ 16
 delta-length s = sym (length-map (s .args .s .d .«delta_q») (λ x. x)) ∙ s .good .1 .1 .0 .1 .1 .1 .1 .1 .0 .1 .1 .0 .1 .0 .1
 
-put-signed-requires : tie.Need-put-signed-requires
-put-signed-requires c κs = omega (arith, delta-length (c .before .before .before .before .before .before .before .before .before .before .before))
+put-deltas-requires : tie.Need-put-deltas-requires
+put-deltas-requires c κs = omega (arith, delta-length (c .before .before .before .before .before .before .before .before .before .before .before))
 
-put-words-requires : tie.Need-put-words-requires
-put-words-requires c κs = omega (arith, delta-length (c .before .before .before .before .before .before .before .before .before .before .before .before .before .before .before))
+put-masks-requires : tie.Need-put-masks-requires
+put-masks-requires c κs = omega (arith, delta-length (c .before .before .before .before .before .before .before .before .before .before .before .before .before .before))
 
 returns : tie.Need-returns
 unfolding flatSegmentation
 returns c =
     let k3 = c .before in
-    let k2 = k3 .before .before .before .before in
+    let k2 = k3 .before .before .before in
     let k1 = k2 .before .before .before .before in
     let s = k1 .before .before .before .before .before .before .before .before in
-    both (both (k1 .put-numbers .ensures) (rw (delta-length s) at (k2 .put-signed .ensures)) (omega (arith, s .pre))) (k3 .put-words .ensures) (omega (arith, s .pre))
+    both (both (k1 .put-bytes .ensures) (rw (delta-length s) at (k2 .put-deltas .ensures)) (omega (arith, s .pre))) (k3 .put-masks .ensures) (omega (arith, s .pre))
 
 pub put-segmentation-spec : {M : Type 1} → statement M
-put-segmentation-spec = tie.close (tie.spec (λ c. search needs) (λ c. search needs) (λ c. search needs) (λ c. search needs) (λ c κs. search needs) (λ c. search needs) put-signed-requires (λ c. search needs) put-words-requires (λ c. search needs) returns)
+put-segmentation-spec =
+    tie.close
+    (tie.spec
+    (λ c. search needs)
+    (λ c. search needs)
+    (λ c. search needs)
+    (λ c. search needs)
+    (λ c κs. search needs)
+    (λ c. search needs)
+    put-deltas-requires
+    put-masks-requires
+    (λ c. search needs)
+    returns)

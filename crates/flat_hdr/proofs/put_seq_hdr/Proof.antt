@@ -6,7 +6,7 @@ use Rattle.flat_hdr.proofs.put_seq_hdr.Statement.{statement}
 use Rattle.flat_hdr.proofs.put_seq_hdr.Tie as tie
 
 returns : tie.Need-returns
-returns c = kept 285 (flatSeqHdr (c .before .args .hdr)) (c .before .args .out .now) (c .if1 .taken)
+returns c = kept 146 (flatSeqHdr (c .before .args .hdr)) (c .before .args .out .now) (c .if1 .taken)
 
 returns-2 : tie.Need-returns-2
 returns-2 c =

@@ -15,10 +15,18 @@ returns c =
     let k3 = k4 .before .before .before in
     let k2 = k3 .before in
     let k1 = k2 .before .before .before in
-    let s = k1 .before .before .before .before .before in
+    let s = k1 .before .before .before in
     let width = back (s .args .s .«max_width») (k2 .struct-told .given .1 .1 .0 .1) in
     let height = back (s .args .s .«max_height») (k4 .struct-told2 .given .1 .1 .1 .0 .1) in
-    both (both (k1 .put-numbers .ensures) (rw width at (k3 .put-one .ensures)) (omega (arith, s .pre))) (rw height at (k5 .put-one2 .ensures)) (omega (arith, s .pre))
+    both (both (k1 .put-bytes .ensures) (rw width at (k3 .put-signed .ensures)) (omega (arith, s .pre))) (rw height at (k5 .put-signed2 .ensures)) (omega (arith, s .pre))
 
 pub put-size-spec : {M : Type 1} → statement M
-put-size-spec = tie.close (tie.spec (λ c. search needs) (λ c. search needs) (λ c. search needs) (λ c κs. search needs) (λ c κs. search needs) (λ c κs. search needs) (λ c. search needs) returns)
+put-size-spec =
+    tie.close
+    (tie.spec
+    (λ c. search needs)
+    (λ c κs. search needs)
+    (λ c κs. search needs)
+    (λ c κs. search needs)
+    (λ c. search needs)
+    returns)

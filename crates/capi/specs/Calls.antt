@@ -1,0 +1,93 @@
+-- What a call leaves: a row of the answer's number, the position and the error's byte, and beside it the lent buffers.
+use Prim.Native.Nat.{ℕ}
+use mathlib.Core.Bool.{Bool, _&&_}
+use mathlib.Core.List.{List, [], _∷_}
+use lib.Dec.{leb, eqb}
+use lib.IntN.{ℤ}
+use lib.ListN.{length}
+use Rattle.answers.specs.Numbers.{numberOf, isRefusal}
+use Rattle.answers.specs.declared.Answer.{Answer}
+use Rattle.answers.specs.declared.Answer.the-variants.{Accepted, WrongArguments, ShortBuffer}
+use Rattle.getbits.specs.Bits.{settled}
+use Rattle.getbits.specs.Chain.{pick, then}
+use Rattle.getbits.specs.declared.Place.{Place}
+use Rattle.lent.specs.Lent.{isSet, placeOf, lentPlace}
+use Rattle.seg_info.specs.Seg.{parseSegInfo}
+use Rattle.seq_fields.specs.declared.AdaptiveBoolean.{AdaptiveBoolean}
+use Rattle.seq_fields.specs.declared.AdaptiveBoolean.the-variants.{Off, On, Adaptive}
+use Rattle.tile_layout.specs.Layout.{parseTileInfo}
+use Rattle.tile_layout.specs.declared.TileArgs.{TileArgs}
+use Rattle.frame_hdr.specs.Frame.{parseTileInfoFrmhdr}
+use Rattle.frame_hdr.specs.declared.FrameType.{FrameType}
+use Rattle.frame_hdr.specs.declared.FrameType.the-variants.{Key, Inter, Intra, Switch}
+use Rattle.frame_hdr.specs.declared.FrameHeader.{FrameHeader}
+use Rattle.frame_hdr.specs.declared.SeqLayout.{SeqLayout}
+use Rattle.rectangles.specs.Rectangles.{rectanglesAnswer}
+use Rattle.seq_hdr.specs.Header.{parseSeqHdr}
+use Rattle.flat_hdr.specs.Header.{flatSeqHdr}
+use Rattle.flat.specs.Layout.{Buffers, overFront, hasRoom, putLayout, layoutIn}
+use Rattle.flat.specs.Segments.{flatMasks, segInfoOf}
+
+-- an answer and the place after it, where the error's byte was `error`
+abbrev pub answered : Answer → Place → ℕ → List ℕ
+answered z p error = numberOf z ∷ lentPlace p error
+
+-- a lent buffer is too short: 5, and the place stays as it was
+abbrev pub tooShort : ℕ → ℕ → List ℕ
+tooShort position error = numberOf ShortBuffer ∷ position ∷ error ∷ []
+
+-- parse_seg_info over 16 lent deltas and three lent masks
+unfoldable pub lentSegInfo : List ℕ → ℕ → ℕ → List ℤ → List ℕ → ℕ → List ℕ × List ℤ × List ℕ
+lentSegInfo s position error deltas masks ext =
+    pick (leb 16 (length deltas) && leb 3 (length masks))
+    (then (parseSegInfo s (placeOf position error) (segInfoOf deltas masks) (isSet ext)) λ r.
+    (answered Accepted (r .next) error, overFront 16 (r .seg .«delta_q») deltas, overFront 3 (flatMasks (r .seg)) masks))
+    (tooShort position error, deltas, masks)
+
+-- parse_tile_info over the buffers of a layout: after a refusal they are what they were
+unfoldable pub lentTileInfo : List ℕ → ℕ → ℕ → Buffers → TileArgs → List ℕ × Buffers
+lentTileInfo s position error b a =
+    pick (hasRoom b)
+    (then (parseTileInfo s (placeOf position error) (layoutIn b) a) λ r.
+    (answered (r .answer) (r .next) error, pick (isRefusal (r .answer)) b (putLayout (r .info) b)))
+    (tooShort position error, b)
+
+-- have the 146 numbers of a header and the buffers of its layout room?
+abbrev pub headerRoom : List ℤ → Buffers → Bool
+headerRoom hdr b = leb 146 (length hdr) && hasRoom b
+
+-- parse_seq_hdr into 146 lent numbers and the buffers of a layout; a refused header writes the zero record
+unfoldable pub lentHeader : List ℕ → ℕ → ℕ → ℕ → List ℤ → Buffers → List ℕ × List ℤ × Buffers
+lentHeader s position error strict hdr b =
+    pick (headerRoom hdr b)
+    (then (parseSeqHdr s (placeOf position error) (isSet strict)) λ r.
+    (answered (r .answer) (r .next) error, overFront 146 (flatSeqHdr (r .hdr)) hdr, putLayout (r .hdr .tiling .t) b))
+    (tooShort position error, hdr, b)
+
+-- the type of a frame and the presence of tiling, by the Rust's numbers
+abbrev pub frameTypeOf : ℕ → FrameType
+frameTypeOf n = pick (eqb n 0) Key (pick (eqb n 1) Inter (pick (eqb n 2) Intra Switch))
+
+abbrev pub presentOf : ℕ → AdaptiveBoolean
+presentOf n = pick (eqb n 0) Off (pick (eqb n 1) On Adaptive)
+
+-- is each of the two numbers one of them?
+abbrev pub isKnown : ℕ → ℕ → Bool
+isKnown type present = leb type 3 && leb present 2
+
+-- parse_tile_info_frmhdr over the buffers of the frame's layout and of the sequence's: after a refusal the frame's code and buffers are what they were
+unfoldable pub lentFrame : List ℕ → ℕ → ℕ → Buffers → Buffers → Bool → FrameHeader → SeqLayout → List ℕ × ℕ × Buffers
+lentFrame s position error b seq known h q =
+    pick (hasRoom b && hasRoom seq)
+    (pick known
+    (then (parseTileInfoFrmhdr s (placeOf position error) h q) λ r. (
+      answered (r .answer) (r .next) error,
+      pick (isRefusal (r .answer)) (h .sb128) (r .hdr .sb128),
+      pick (isRefusal (r .answer)) b (putLayout (r .hdr .tiling) b),
+    ))
+    (answered WrongArguments (settled s (placeOf position error)) error, h .sb128, b))
+    (tooShort position error, h .sb128, b)
+
+-- the answer of tile_rectangles over the buffers of a layout
+abbrev pub lentRectangles : Buffers → ℕ → ℕ → Answer
+lentRectangles b code room = pick (hasRoom b) (rectanglesAnswer (layoutIn b) code room) ShortBuffer
