@@ -13,13 +13,9 @@ use Rattle.getbits.specs.Chain.{pick, then}
 use Rattle.getbits.specs.declared.Place.{Place}
 use Rattle.lent.specs.Lent.{isSet, placeOf, lentPlace}
 use Rattle.seg_info.specs.Seg.{parseSegInfo}
-use Rattle.seq_fields.specs.declared.AdaptiveBoolean.{AdaptiveBoolean}
-use Rattle.seq_fields.specs.declared.AdaptiveBoolean.the-variants.{Off, On, Adaptive}
 use Rattle.tile_layout.specs.Layout.{parseTileInfo}
 use Rattle.tile_layout.specs.declared.TileArgs.{TileArgs}
-use Rattle.frame_hdr.specs.Frame.{parseTileInfoFrmhdr}
-use Rattle.frame_hdr.specs.declared.FrameType.{FrameType}
-use Rattle.frame_hdr.specs.declared.FrameType.the-variants.{Key, Inter, Intra, Switch}
+use Rattle.frame_hdr.specs.Frame.{isFrameType, isPresence, parseTileInfoFrmhdr}
 use Rattle.frame_hdr.specs.declared.FrameHeader.{FrameHeader}
 use Rattle.frame_hdr.specs.declared.SeqLayout.{SeqLayout}
 use Rattle.rectangles.specs.Rectangles.{rectanglesAnswer}
@@ -64,16 +60,9 @@ lentHeader s position error strict hdr b =
     (answered (r .answer) (r .next) error, overFront 146 (flatSeqHdr (r .hdr)) hdr, putLayout (r .hdr .tiling .t) b))
     (tooShort position error, hdr, b)
 
--- the type of a frame and the presence of tiling, by the Rust's numbers
-abbrev pub frameTypeOf : ℕ → FrameType
-frameTypeOf n = pick (eqb n 0) Key (pick (eqb n 1) Inter (pick (eqb n 2) Intra Switch))
-
-abbrev pub presentOf : ℕ → AdaptiveBoolean
-presentOf n = pick (eqb n 0) Off (pick (eqb n 1) On Adaptive)
-
 -- is each of the two numbers one of them?
 abbrev pub isKnown : ℕ → ℕ → Bool
-isKnown type present = leb type 3 && leb present 2
+isKnown type present = isFrameType type && isPresence present
 
 -- parse_tile_info_frmhdr over the buffers of the frame's layout and of the sequence's: after a refusal the frame's code and buffers are what they were
 unfoldable pub lentFrame : List ℕ → ℕ → ℕ → Buffers → Buffers → Bool → FrameHeader → SeqLayout → List ℕ × ℕ × Buffers

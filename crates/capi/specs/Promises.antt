@@ -14,7 +14,7 @@ use Rattle.tile_layout.specs.declared.TileRead.{TileRead}
 use Rattle.frame_hdr.specs.Frame.{withLayout}
 use Rattle.frame_hdr.specs.declared.FrameHeader.{FrameHeader}
 use Rattle.frame_hdr.specs.declared.FrameRead.{FrameRead}
-use Rattle.seq_hdr.specs.HeaderLayout.{HasLayout, layoutPlace, layoutArgs, layoutRead}
+use Rattle.seq_hdr.specs.HeaderLayout.{HasLayout, layoutPlace, layoutArgs, layoutCall}
 use Rattle.flat.specs.Layout.{Buffers, layoutIn}
 
 -- the answer that has a number
@@ -34,9 +34,9 @@ frameLeft h n code b p = record { answer = answerOf n; hdr = withLayout h code (
 -- the header's layout that a call leaves
 pub record HeaderLeft (s : List ℕ) (p : Place) (n : ℕ) (b : Buffers) : Type 0 where
   -- demand 3 holds of the call of parse_tile_info
-  pub demand3 : HasLayout s p → Demand3 s (layoutPlace s p) (layoutArgs s p) (layoutRead s p)
+  pub demand3 : HasLayout s p → Demand3 s (layoutPlace s p) (layoutArgs s p) (layoutCall s p)
   -- the header is refused with 2 exactly when that call is refused
-  pub refused-with-2 : HasLayout s p → isRefusal (layoutRead s p .answer) ≡ true → n ≡ 2
-  pub refused-only-then : HasLayout s p → n ≡ 2 → isRefusal (layoutRead s p .answer) ≡ true
+  pub refused-with-2 : HasLayout s p → isRefusal (layoutCall s p .answer) ≡ true → n ≡ 2
+  pub refused-only-then : HasLayout s p → n ≡ 2 → isRefusal (layoutCall s p .answer) ≡ true
   -- an accepted header leaves that call's layout
-  pub layout : HasLayout s p → n ≡ 0 → layoutIn b ≡ layoutRead s p .info
+  pub layout : HasLayout s p → n ≡ 0 → layoutIn b ≡ layoutCall s p .info

@@ -5,12 +5,12 @@ ghost use mathlib.Core.Path.{_≡_};
 ghost use lib.ListN.{length};
 ghost use Rattle.answers.specs.Numbers.{numberOf};
 ghost use Rattle.flat.specs.Layout.{buffers, hasRoom, layoutIn};
-ghost use Rattle.frame_hdr.specs.Frame.{FreshDemand3};
+ghost use Rattle.frame_hdr.specs.Frame.{frameTypeOf, presentOf, FreshDemand3};
 ghost use Rattle.lent.specs.Lent.{placeOf};
 ghost use Rattle.rectangles.specs.Rectangles.{Outcome};
 ghost use Rattle.tile_layout.specs.Demand3.{Demand3};
 ghost use Rattle.tile_layout.specs.Limits.{argsOf, inDomain};
-ghost use Rattle.capi.specs.Calls.{lentSegInfo, lentTileInfo, headerRoom, lentHeader, isKnown, frameTypeOf, presentOf, lentFrame, lentRectangles};
+ghost use Rattle.capi.specs.Calls.{lentSegInfo, lentTileInfo, headerRoom, lentHeader, isKnown, lentFrame, lentRectangles};
 ghost use Rattle.capi.specs.Promises.{tilesLeft, frameLeft, HeaderLeft};
 use answers::is_refusal;
 use answers::number;
@@ -22,16 +22,16 @@ use flat::seg_info_of;
 use flat::tile_info_of;
 use flat_hdr::put_seq_hdr;
 use frame_hdr::FrameHeader;
-use frame_hdr::FrameType;
 use frame_hdr::SeqLayout;
 use frame_hdr::frame_layout;
+use frame_hdr::frame_type_of;
+use frame_hdr::present_of;
 use getbits::read_bits;
 use lent::is_set;
 use lent::place_of;
 use lent::put_place;
 use rectangles::tile_rectangles;
 use seg_info::parse_seg_info;
-use seq_fields::AdaptiveBoolean;
 use seq_hdr::parse_seq_hdr;
 use tile_info::parse_tile_info;
 
@@ -151,27 +151,6 @@ pub extern "C" fn mubanlig_parse_seq_hdr(
         &mut *row_start_sb,
     );
     number(answer)
-}
-
-fn frame_type_of(n: u8) -> FrameType
-    ensures { λ r. ⌜ r ≡ frameTypeOf n ⌝ }
-{
-    match n {
-        0 => FrameType::Key,
-        1 => FrameType::Inter,
-        2 => FrameType::Intra,
-        _ => FrameType::Switch,
-    }
-}
-
-fn present_of(n: u8) -> AdaptiveBoolean
-    ensures { λ r. ⌜ r ≡ presentOf n ⌝ }
-{
-    match n {
-        0 => AdaptiveBoolean::Off,
-        1 => AdaptiveBoolean::On,
-        _ => AdaptiveBoolean::Adaptive,
-    }
 }
 
 fn is_known(frame_type: u8, present: u8) -> bool

@@ -2,7 +2,7 @@
 use mathlib.Core.Bool.{Bool, _&&_, false}
 use mathlib.Core.List.{List}
 use Prim.Native.Nat.{ℕ, _+_}
-use lib.Dec.{leb, eqb}
+use lib.Dec.{leb}
 use lib.IntN.{pos}
 use lib.ListN.{length, take, drop}
 use Rattle.answers.specs.Numbers.{isRefusal}
@@ -16,17 +16,13 @@ use Rattle.seq_hdr.specs.Header.{parseSeqHdr}
 use Rattle.frame_hdr.specs.declared.FrameHeader.{FrameHeader}
 use Rattle.frame_hdr.specs.declared.FrameRead.{FrameRead}
 use Rattle.frame_hdr.specs.declared.FrameType.{FrameType}
-use Rattle.frame_hdr.specs.declared.FrameType.the-variants.{Key, Inter, Intra, Switch}
-use Rattle.frame_hdr.specs.Frame.{parseTileInfoFrmhdr}
+use Rattle.frame_hdr.specs.declared.FrameType.the-variants.{Key}
+use Rattle.frame_hdr.specs.Frame.{isFrameType, frameTypeOf, parseTileInfoFrmhdr}
 use Rattle.frame_hdr.specs.Sequence.{seqLayout}
 
 -- where the frame begins: behind the header's length L and L bytes of header
 abbrev pub frameAt : List ℕ → ℕ
 frameAt s = twoAt s 0 + 2
-
--- types 0 to 3: key, inter, intra, switch
-abbrev pub frameTypeOf : ℕ → FrameType
-frameTypeOf n = pick (eqb n 0) Key (pick (eqb n 1) Inter (pick (eqb n 2) Intra Switch))
 
 -- a frame of a type and a size, with the zero layout
 abbrev pub frameOf : FrameType → ℕ → ℕ → FrameHeader
@@ -38,7 +34,7 @@ givenFrame s = frameOf (frameTypeOf (byteAt s (frameAt s))) (twoAt s (frameAt s 
 
 -- 65,536 bytes at most, nothing missing before the tiling bits, and a type of 0 to 3
 abbrev pub isRequest : List ℕ → Bool
-isRequest s = (isInput s && leb (frameAt s + 5) (length s)) && leb (byteAt s (frameAt s)) 3
+isRequest s = (isInput s && leb (frameAt s + 5) (length s)) && isFrameType (byteAt s (frameAt s))
 
 -- a refusal before the frame: its record is a key frame of 1 by 1
 abbrev pub noFrame : Answer → FrameRead

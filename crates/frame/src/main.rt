@@ -5,13 +5,14 @@ ghost use lib.ListN.{take};
 ghost use Rattle.io.specs.Counts.{Counts};
 ghost use Rattle.text.specs.Text.{Put};
 ghost use Rattle.frame.specs.Print.{headText, startsText, logsText, layoutText, readText, frameText};
-ghost use Rattle.frame.specs.Request.{frameAt, frameTypeOf, frameOf, givenFrame, isRequest, noFrame, frameRequest};
+ghost use Rattle.frame.specs.Request.{frameAt, frameOf, givenFrame, isRequest, noFrame, frameRequest};
 use answers::Answer;
 use answers::is_refusal;
 use answers::number;
 use frame_hdr::FrameHeader;
 use frame_hdr::FrameRead;
 use frame_hdr::FrameType;
+use frame_hdr::frame_type_of;
 use frame_hdr::parse_tile_info_frmhdr;
 use getbits::Place;
 use lent::position_of;
@@ -27,17 +28,6 @@ use seq_hdr::parse_seq_hdr;
 use text::put_row;
 use tile_layout::TileInfo;
 use tile_layout::no_tile_info;
-
-fn frame_type_of(n: u8) -> FrameType
-    ensures { λ r. ⌜ r ≡ frameTypeOf n ⌝ }
-{
-    match n {
-        0 => FrameType::Key,
-        1 => FrameType::Inter,
-        2 => FrameType::Intra,
-        _ => FrameType::Switch,
-    }
-}
 
 // A frame of a type and a size, with the zero layout.
 fn frame_of(frame_type: FrameType, w: usize, h: usize) -> FrameHeader

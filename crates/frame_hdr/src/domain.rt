@@ -1,8 +1,6 @@
 // The domain: the frame's size, and a usable sequence record.
 ghost use mathlib.Core.Path.{_≡_};
 ghost use mathlib.Core.Bool.{_&&_};
-ghost use Prim.Native.Nat.{_<_};
-ghost use lib.ListN.{getD};
 ghost use Rattle.tile_layout.specs.Limits.{unsigned, isSize};
 ghost use Rattle.frame_hdr.specs.Frame.{startsLow, usableTiles, isOff, usable, inFrameDomain};
 use super::FrameHeader;
@@ -11,6 +9,7 @@ use seq_fields::AdaptiveBoolean;
 use superblocks::is_size;
 use tile_layout::TileInfo;
 use tile_layout::not_below_0;
+use tile_layout::start_at;
 
 // A width or height in the domain.
 fn is_extent(x: i32) -> bool
@@ -19,22 +18,15 @@ fn is_extent(x: i32) -> bool
     is_size(not_below_0(x))
 }
 
-// The start at i, and 0 past the end.
-fn at(starts: &[u16], i: usize) -> u16
-    ensures { λ r. ⌜ r ≡ getD (now (starts .entry)) i 0 ⌝ }
-{
-    if i < starts.len() { starts[i] } else { 0 }
-}
-
 // All starts up to and with entry n are at most 1,024.
 fn starts_low(starts: &[u16], n: u8) -> bool
     ensures { λ r. ⌜ r ≡ startsLow (now (starts .entry)) n ⌝ }
 {
-    let mut low = at(starts, 0) <= 1024;
+    let mut low = start_at(starts, 0) <= 1024;
     let mut i: u8 = 0;
     while i < n {
         i += 1;
-        low = low & (at(starts, i as usize) <= 1024);
+        low = low & (start_at(starts, i as usize) <= 1024);
     }
     low
 }

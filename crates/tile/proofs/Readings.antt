@@ -8,6 +8,7 @@ use Rattle.codes.specs.Codes.{runOf, getUniform}
 use Rattle.tile_layout.specs.Limits.{inDomain, superblocks, widthLimit, areaLimit, doublings, minLog2Cols, maxLog2Cols, maxLog2Rows, minLog2Tiles}
 use Rattle.tile_layout.specs.Layout.{tabulate, fullCount, base, count, larger, startAt, readLog2, uniformInfo, uniformLayout, readSizes, sum, widest, startsFrom}
 use Rattle.tile_layout.specs.Layout.{rowArea, rowLimit, readCols, readRows, nonUniformInfo, nonUniformLayout, parseTileInfo}
+use Rattle.superblocks.specs.Counts.{multiplierOf}
 use Rattle.text.specs.Text.{word, decimal, decimalIn, nexts, row}
 use Rattle.program.specs.Output.{acceptedText, refusedText}
 use Rattle.tile.specs.Request.{tileRequest}
@@ -17,7 +18,7 @@ listing : tileText (0xFF ∷ 0x00 ∷ 0x7F ∷ 0x00 ∷ 0 ∷ 0 ∷ 0 ∷ 0 ∷ 
 unfolding leadingZeros then turns bitsAt position readBits getBit getBits getFlag runOf getUniform
     inDomain superblocks widthLimit areaLimit doublings minLog2Cols maxLog2Cols maxLog2Rows minLog2Tiles
     tabulate fullCount base count larger startAt readLog2 uniformInfo uniformLayout readSizes sum widest startsFrom
-    rowArea rowLimit readCols readRows nonUniformInfo nonUniformLayout parseTileInfo
+    rowArea rowLimit readCols readRows nonUniformInfo nonUniformLayout parseTileInfo multiplierOf
     word decimal decimalIn nexts row tileRequest headText layoutText acceptedText refusedText readText tileText
 listing = refl
 

@@ -3,9 +3,10 @@ ghost use mathlib.Core.Path.{_≡_};
 ghost use lib.IntN.{pos};
 ghost use lib.ListN.{take};
 ghost use Rattle.io.specs.Counts.{Counts};
+ghost use Rattle.superblocks.specs.Counts.{multiplierOf};
 ghost use Rattle.text.specs.Text.{Put};
 ghost use Rattle.tile.specs.Print.{headText, startsText, layoutText, readText, tileText};
-ghost use Rattle.tile.specs.Request.{samplesAt, multiplierOf, isRequest, tileRequest};
+ghost use Rattle.tile.specs.Request.{samplesAt, isRequest, tileRequest};
 use answers::Answer;
 use answers::is_refusal;
 use answers::number;
@@ -18,6 +19,7 @@ use program::put_accepted;
 use program::put_refused;
 use program::report_written;
 use program::two_at;
+use superblocks::multiplier_of;
 use text::put_row;
 use tile_info::parse_tile_info;
 use tile_layout::TileInfo;
@@ -35,11 +37,7 @@ fn samples(s: &[u8], i: usize) -> i32
 fn multiplier(sb128: u8, seq_sb128: u8) -> i32
     ensures { λ r. ⌜ r ≡ pos (multiplierOf sb128 «seq_sb128») ⌝ }
 {
-    if (sb128 == 1) & (seq_sb128 == 2) {
-        2
-    } else {
-        1
-    }
+    multiplier_of(sb128, seq_sb128) as i32
 }
 
 fn is_request(s: &[u8]) -> bool

@@ -14,11 +14,11 @@ use Rattle.getbits.specs.declared.Number.{Number}
 use Rattle.getbits.specs.declared.Place.{Place}
 use Rattle.lent.specs.Lent.{placeOf}
 use Rattle.frame_hdr.proofs.Fresh.{fresh-demand-3}
-use Rattle.frame_hdr.specs.Frame.{FreshDemand3, parseTileInfoFrmhdr}
+use Rattle.frame_hdr.specs.Frame.{FreshDemand3, frameTypeOf, presentOf, parseTileInfoFrmhdr}
 use Rattle.frame_hdr.specs.declared.FrameHeader.{FrameHeader}
 use Rattle.frame_hdr.specs.declared.SeqLayout.{SeqLayout}
 use Rattle.flat.specs.Layout.{Buffers, buffers, hasRoom, putLayout, layoutIn}
-use Rattle.capi.specs.Calls.{answered, isKnown, frameTypeOf, presentOf, lentFrame}
+use Rattle.capi.specs.Calls.{answered, isKnown, lentFrame}
 use Rattle.capi.proofs.Left.{row, triple, first-fails, second-fails, both-hold, contrary, accepted-0, demand3-left}
 use Rattle.capi.proofs.mubanlig_parse_tile_info_frmhdr.Statement.{statement}
 use Rattle.capi.proofs.mubanlig_parse_tile_info_frmhdr.Tie as tie

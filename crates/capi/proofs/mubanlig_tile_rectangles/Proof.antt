@@ -27,7 +27,7 @@ returns c =
     let lacks = sym (c .before .has-room .ensures) ∙ not-true (c .before .has-room .result) (c .if1 .taken) in
     let short : lentRectangles (given s) (a .sb128) (length (a .out .now)) ≡ ShortBuffer = left _ _ _ lacks in (
       ap numberOf (sym short),
-      (subst (λ (z : Answer). Outcome (layoutIn (given s)) (a .sb128) z (a .out .now) (a .out .now)) (sym short) (record { unchanged = λ _. refl; written = λ e. absurd (subst T e tt) }), λ _. refl),
+      (subst (λ (z : Answer). Outcome (layoutIn (given s)) (a .sb128) z (a .out .now) (a .out .now)) (sym short) (record { unchanged = λ _. refl; filled = λ e. absurd (subst T e tt); long = refl }), λ _. refl),
     )
 
 returns-2 : tie.Need-returns-2

@@ -6,7 +6,8 @@ use borrow.Author.Needs.{needs}
 use lib.ListN.{getD}
 use Rattle.frame_hdr.specs.declared.FrameType.{FrameType}
 use Rattle.program.specs.Input.{twoAt}
-use Rattle.frame.specs.Request.{frameTypeOf, frameOf, frameAt}
+use Rattle.frame_hdr.specs.Frame.{frameTypeOf}
+use Rattle.frame.specs.Request.{frameOf, frameAt}
 use Rattle.frame.proofs.given_frame.Statement.{statement}
 use Rattle.frame.proofs.given_frame.Tie as tie
 

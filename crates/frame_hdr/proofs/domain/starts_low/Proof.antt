@@ -17,12 +17,12 @@ abbrev μ-loop : tie.MeasureT-loop
 
 loop-holds : tie.Need-loop-holds Inv-loop μ-loop
 unfolding startsLow
-loop-holds c = (search needs, ap (λ (x : ℕ). leb x 1024) (c .at .ensures))
+loop-holds c = (search needs, ap (λ (x : ℕ). leb x 1024) (c .start-at .ensures))
 
 loop-again : tie.Need-loop-again Inv-loop μ-loop
 loop-again c =
     let l = c .before .before .loop in
-    (search needs, low-more (c .before .before .before .before .before .args .starts .now) (l .i) (l .inv .1) (c .at2 .ensures))
+    (search needs, low-more (c .before .before .before .before .before .args .starts .now) (l .i) (l .inv .1) (c .start-at2 .ensures))
 
 returns : tie.Need-returns Inv-loop μ-loop
 returns c =
