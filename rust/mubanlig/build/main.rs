@@ -142,28 +142,27 @@ fn watch(root: &Path) {
     }
 }
 
-/// Holds the project's target folder until the file is dropped. In one that can't be written nothing is proved.
+/// Holds the project's folder until the file is dropped, as `./run` and `./test` do. In one that can't be written nothing is
+/// proved.
 fn lock(root: &Path, screen: &mut Screen) -> io::Result<File> {
-    let target = root.join("target");
-    fs::create_dir_all(target.join("staticlib"))?;
-    let path = target.join("staticlib.lock");
-    let file = File::options()
-        .write(true)
-        .create(true)
-        .truncate(false)
-        .open(&path)?;
-    match file.try_lock() {
+    let folder = File::open(root)?;
+    match folder.try_lock() {
         Ok(()) => {}
         Err(TryLockError::WouldBlock) => {
             screen.show(&format!(
-                "another build holds {}: waiting for it",
-                path.display()
+                "another build, run or test works in {}: waiting for it",
+                root.display()
             ));
-            file.lock()?;
+            folder.lock()?;
         }
         Err(TryLockError::Error(e)) => return Err(e),
     }
-    Ok(file)
+    let written = root.join("target/staticlib");
+    fs::create_dir_all(&written)?;
+    let probe = written.join(".written");
+    File::create(&probe)?;
+    fs::remove_file(probe)?;
+    Ok(folder)
 }
 
 /// Looks through both libraries of a folder and copies them to where they are linked from.

@@ -78,7 +78,7 @@ fn other_files_are_refused() {
 fn a_folder_is_named_from_the_root() {
     let named = |value: &str| named_folder(Some(OsStr::new(value)));
     assert_eq!(named_folder(None), Ok(None));
-    assert_eq!(named("/opt/lib"), Ok(Some(PathBuf::from("/opt/lib"))));
+    assert_eq!(named("/usr/lib"), Ok(Some(PathBuf::from("/usr/lib"))));
     assert!(named("").unwrap_err().contains("is set and empty"));
     assert!(
         named("target/lib")
@@ -118,7 +118,7 @@ fn project(name: &str, source: SystemTime, libraries: SystemTime) -> PathBuf {
             .set_modified(at)
             .unwrap();
     };
-    write("crates/one/src/lib.rt", source);
+    write("crates/one/src/source", source);
     write("crates.txt", source);
     write("lib/libone.a", libraries);
     write("lib/libtwo.a", libraries);
@@ -147,7 +147,7 @@ fn a_library_older_than_a_source_is_stale() {
     assert_eq!(stale(&root), Some(root.join("lib/libone.a")));
     // A file taken away changes its folder.
     let root = project("removed", then, then);
-    fs::remove_file(root.join("crates/one/src/lib.rt")).unwrap();
+    fs::remove_file(root.join("crates/one/src/source")).unwrap();
     assert_eq!(stale(&root), Some(root.join("lib/libone.a")));
     assert_eq!(
         sources::newest(&root).unwrap().path,

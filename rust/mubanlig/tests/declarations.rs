@@ -176,10 +176,7 @@ fn the_header_declares_what_is_proved() {
 
 #[test]
 fn this_crate_declares_what_is_proved() {
-    let source = read(Path::new(concat!(
-        env!("CARGO_MANIFEST_DIR"),
-        "/src/ffi.rs"
-    )));
+    let source = read(&Path::new(env!("CARGO_MANIFEST_DIR")).join("src/ffi.rs"));
     let (_, block) = source.split_once("unsafe extern \"C\" {").unwrap();
     let (block, _) = block.split_once("\n}").unwrap();
     let declared = declarations(block, |item| item.starts_with("fn "));
