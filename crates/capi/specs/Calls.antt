@@ -2,7 +2,7 @@
 use Prim.Native.Nat.{ℕ}
 use mathlib.Core.Bool.{Bool, _&&_}
 use mathlib.Core.List.{List, [], _∷_}
-use lib.Dec.{leb, eqb}
+use lib.Dec.{leb}
 use lib.IntN.{ℤ}
 use lib.ListN.{length}
 use Rattle.answers.specs.Numbers.{numberOf, isRefusal}
@@ -48,14 +48,10 @@ lentTileInfo s position error b a =
     (answered (r .answer) (r .next) error, pick (isRefusal (r .answer)) b (putLayout (r .info) b)))
     (tooShort position error, b)
 
--- have the 146 numbers of a header and the buffers of its layout room?
-abbrev pub headerRoom : List ℤ → Buffers → Bool
-headerRoom hdr b = leb 146 (length hdr) && hasRoom b
-
 -- parse_seq_hdr into 146 lent numbers and the buffers of a layout; a refused header writes the zero record
 unfoldable pub lentHeader : List ℕ → ℕ → ℕ → ℕ → List ℤ → Buffers → List ℕ × List ℤ × Buffers
 lentHeader s position error strict hdr b =
-    pick (headerRoom hdr b)
+    pick (leb 146 (length hdr) && hasRoom b)
     (then (parseSeqHdr s (placeOf position error) (isSet strict)) λ r.
     (answered (r .answer) (r .next) error, overFront 146 (flatSeqHdr (r .hdr)) hdr, putLayout (r .hdr .tiling .t) b))
     (tooShort position error, hdr, b)

@@ -1,8 +1,10 @@
 // The functions for Rust and C over records: numbers and slices only.
-ghost use mathlib.Core.Bool.{true, false, _&&_};
-ghost use mathlib.Core.List.{[], _∷_};
+ghost use mathlib.Core.Bool.{true, _&&_};
+ghost use mathlib.Core.List.{[], _∷_, _++_};
 ghost use mathlib.Core.Path.{_≡_};
-ghost use lib.ListN.{length};
+ghost use Prim.Native.Nat.{_≤_};
+ghost use lib.IntN.{pos};
+ghost use lib.ListN.{length, replicate, drop};
 ghost use Rattle.answers.specs.Numbers.{numberOf};
 ghost use Rattle.flat.specs.Layout.{buffers, hasRoom, layoutIn};
 ghost use Rattle.frame_hdr.specs.Frame.{frameTypeOf, presentOf, FreshDemand3};
@@ -10,7 +12,7 @@ ghost use Rattle.lent.specs.Lent.{placeOf};
 ghost use Rattle.rectangles.specs.Rectangles.{Outcome};
 ghost use Rattle.tile_layout.specs.Demand3.{Demand3};
 ghost use Rattle.tile_layout.specs.Limits.{argsOf, inDomain};
-ghost use Rattle.capi.specs.Calls.{lentSegInfo, lentTileInfo, headerRoom, lentHeader, isKnown, lentFrame, lentRectangles};
+ghost use Rattle.capi.specs.Calls.{lentSegInfo, lentTileInfo, lentHeader, isKnown, lentFrame, lentRectangles};
 ghost use Rattle.capi.specs.Promises.{tilesLeft, frameLeft, HeaderLeft};
 use answers::is_refusal;
 use answers::number;
@@ -127,10 +129,14 @@ pub extern "C" fn mubanlig_parse_seq_hdr(
 ) -> u32
     ensures { λ r. ⌜ ((r ∷ now (position .exit) ∷ now (error .exit) ∷ []), now (hdr .exit), buffers (now (info .exit)) (now («col_start_sb» .exit)) (now («row_start_sb» .exit)))
         ≡ lentHeader (now (s .entry)) (now (position .entry)) (now (error .entry)) strict (now (hdr .entry)) (buffers (now (info .entry)) (now («col_start_sb» .entry)) (now («row_start_sb» .entry))) ⌝ }
-    ensures { λ _. ⌜ (headerRoom (now (hdr .entry)) (buffers (now (info .entry)) (now («col_start_sb» .entry)) (now («row_start_sb» .entry))) ≡ false → now (hdr .exit) ≡ now (hdr .entry)) ⌝ }
-    ensures { λ _. ⌜ (headerRoom (now (hdr .entry)) (buffers (now (info .entry)) (now («col_start_sb» .entry)) (now («row_start_sb» .entry))) ≡ false → now (info .exit) ≡ now (info .entry)) ⌝ }
-    ensures { λ _. ⌜ (headerRoom (now (hdr .entry)) (buffers (now (info .entry)) (now («col_start_sb» .entry)) (now («row_start_sb» .entry))) ≡ false → now («col_start_sb» .exit) ≡ now («col_start_sb» .entry)) ⌝ }
-    ensures { λ _. ⌜ (headerRoom (now (hdr .entry)) (buffers (now (info .entry)) (now («col_start_sb» .entry)) (now («row_start_sb» .entry))) ≡ false → now («row_start_sb» .exit) ≡ now («row_start_sb» .entry)) ⌝ }
+    ensures { λ r. ⌜ (r ≡ 5 → now (hdr .exit) ≡ now (hdr .entry)) ⌝ }
+    ensures { λ r. ⌜ (r ≡ 5 → now (info .exit) ≡ now (info .entry)) ⌝ }
+    ensures { λ r. ⌜ (r ≡ 5 → now («col_start_sb» .exit) ≡ now («col_start_sb» .entry)) ⌝ }
+    ensures { λ r. ⌜ (r ≡ 5 → now («row_start_sb» .exit) ≡ now («row_start_sb» .entry)) ⌝ }
+    ensures { λ r. ⌜ (1 ≤ r → r ≤ 3 → now (hdr .exit) ≡ replicate 146 (pos 0) ++ drop 146 (now (hdr .entry))) ⌝ }
+    ensures { λ r. ⌜ (1 ≤ r → r ≤ 3 → now (info .exit) ≡ replicate 9 0 ++ drop 9 (now (info .entry))) ⌝ }
+    ensures { λ r. ⌜ (1 ≤ r → r ≤ 3 → now («col_start_sb» .exit) ≡ replicate 65 0 ++ drop 65 (now («col_start_sb» .entry))) ⌝ }
+    ensures { λ r. ⌜ (1 ≤ r → r ≤ 3 → now («row_start_sb» .exit) ≡ replicate 65 0 ++ drop 65 (now («row_start_sb» .entry))) ⌝ }
     ensures { λ r. ⌜ ((r ≡ 5 → ⊥) → HeaderLeft (now (s .entry)) (placeOf (now (position .entry)) (now (error .entry))) r (buffers (now (info .exit)) (now («col_start_sb» .exit)) (now («row_start_sb» .exit)))) ⌝ }
 {
     if hdr.len() < 146 {

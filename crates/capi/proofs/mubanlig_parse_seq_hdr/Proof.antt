@@ -8,7 +8,9 @@ use lib.ListN.{length}
 use Rattle.getbits.proofs.Chain.{through, taken, left}
 use Rattle.flat.specs.Layout.{Buffers, buffers, hasRoom}
 use Rattle.capi.specs.Calls.{lentHeader}
-use Rattle.capi.proofs.Left.{row, triple, first-fails, second-fails, both-hold, contrary, header-left}
+use Rattle.lent.specs.Lent.{isSet, placeOf}
+use Rattle.seq_hdr.proofs.Refused.{Refused, header-refused}
+use Rattle.capi.proofs.Left.{row, triple, first-fails, second-fails, both-hold, never-5, header-read, header-left}
 use Rattle.capi.proofs.mubanlig_parse_seq_hdr.Statement.{statement}
 use Rattle.capi.proofs.mubanlig_parse_seq_hdr.Tie as tie
 
@@ -21,7 +23,7 @@ unfolding lentHeader
 returns c =
     let s = c .before .before .before .before .before in
     let fails = first-fails _ (hasRoom (given s)) (lt-leb 146 (length (s .args .hdr .now)) (c .if1 .taken)) in
-    (sym (left _ _ _ fails), (λ _. refl, (λ _. refl, (λ _. refl, (λ _. refl, λ h. absurd (h refl))))))
+    (sym (left _ _ _ fails), (λ _. refl, (λ _. refl, (λ _. refl, (λ _. refl, (λ _ h. never-5 h, (λ _ h. never-5 h, (λ _ h. never-5 h, (λ _ h. never-5 h, λ h. absurd (h refl))))))))))
 
 returns-2 : tie.Need-returns-2
 unfolding lentHeader
@@ -29,7 +31,7 @@ returns-2 c =
     let s = c .before .before .before .before .before .before .before .before .before .before in
     let lacks = sym (c .before .has-room .ensures) ∙ not-true (c .before .has-room .result) (c .if2 .taken) in
     let fails = second-fails (leb 146 (length (s .args .hdr .now))) _ lacks in
-    (sym (left _ _ _ fails), (λ _. refl, (λ _. refl, (λ _. refl, (λ _. refl, λ h. absurd (h refl))))))
+    (sym (left _ _ _ fails), (λ _. refl, (λ _. refl, (λ _. refl, (λ _. refl, (λ _ h. never-5 h, (λ _ h. never-5 h, (λ _ h. never-5 h, (λ _ h. never-5 h, λ h. absurd (h refl))))))))))
 
 returns-3 : tie.Need-returns-3
 unfolding lentHeader
@@ -48,9 +50,24 @@ returns-3 c =
     let has : hasRoom (given s) ≡ true = sym (k .before .has-room .ensures) ∙ not-false (k .before .has-room .result) (k .if2 .left) in
     let read = rw (p .place-of .ensures, r .before .is-set .ensures) at (r .parse-seq-hdr .ensures .0) in
     let layout = rw (p .place-of .ensures) at (r .parse-seq-hdr .ensures .1) in
-    let room = both-hold _ _ (le-leb 146 (length (a .hdr .now)) (i .if1 .left)) has in (
+    let long = le-leb 146 (length (a .hdr .now)) (i .if1 .left) in
+    let room = both-hold _ _ long has in
+    let answer : Refused x = rw read (header-refused (a .s .now) (placeOf (a .position .now) (a .error .now)) (isSet (a .strict))) in
+    let w = header-read x (c .number .result) (a .hdr .now) (given s) (c .number .ensures) answer long has (h .put-seq-hdr .ensures) (put .0) in (
       triple (row (x .answer) (x .next) (a .error .now) (c .number .ensures) (q .put-place .ensures)) (h .put-seq-hdr .ensures) (put .0) ∙ sym (taken _ _ _ room ∙ through _ _ read),
-      (λ e. contrary room e, (λ e. contrary room e, (λ e. contrary room e, (λ e. contrary room e, λ _. header-left x (c .number .result) _ (c .number .ensures) (put .1 has) layout)))),
+      (
+        λ e. absurd (w .not-5 e),
+        (
+          λ e. absurd (w .not-5 e),
+          (
+            λ e. absurd (w .not-5 e),
+            (
+              λ e. absurd (w .not-5 e),
+              (λ e _. w .numbers e, (λ e _. w .bytes e, (λ e _. w .col-starts e, (λ e _. w .row-starts e, λ _. header-left x (c .number .result) _ (c .number .ensures) (put .1 has) layout)))),
+            ),
+          ),
+        ),
+      ),
     )
 
 pub mubanlig-parse-seq-hdr-spec : {M : Type 1} → statement M
