@@ -23,6 +23,7 @@ use capi_bits::mubanlig_remaining_bytes;
 use codes::get_uleb128;
 use getbits::Place;
 use libc::STDOUT_FILENO;
+use program::report_written;
 
 // Numbers of a case, and the place behind them.
 struct Row {
@@ -868,8 +869,8 @@ fn print_name(kind: usize) {
     }
 }
 
-// The name, how many were replayed and how many agree.
-fn print_line(t: Tally, kind: usize) {
+// The name, how many were replayed and how many agree. Could the line's end be written?
+fn print_line(t: Tally, kind: usize) -> bool {
     let replayed = t.replayed;
     let agree = t.agree;
     print_name(kind);
@@ -877,13 +878,15 @@ fn print_line(t: Tally, kind: usize) {
     io::print_decimal(STDOUT_FILENO, at(&replayed, kind) as u64);
     print(b" ");
     io::print_decimal(STDOUT_FILENO, at(&agree, kind) as u64);
-    print(b"\n");
+    io::write_all(STDOUT_FILENO, b"\n")
 }
 
-fn print_tally(t: Tally) {
-    for kind in 0..17 {
+// A line for each operation. Could the last be written?
+fn print_tally(t: Tally) -> bool {
+    for kind in 0..16 {
         print_line(t, kind);
     }
+    print_line(t, 16)
 }
 
 fn main() {
@@ -896,6 +899,6 @@ fn main() {
         replayed: [0; 17],
         agree: [0; 17],
     };
-    print_tally(replay_all(fd, none));
+    report_written(print_tally(replay_all(fd, none)));
     libc::close(fd);
 }

@@ -5,10 +5,10 @@ use Rattle.vectors.proofs.print_tally.Statement.{statement}
 use Rattle.vectors.proofs.print_tally.Tie as tie
 
 abbrev Inv-loop : tie.InvT-loop
-Inv-loop t kind₀ kind = kind ≤ 17
+Inv-loop t kind₀ kind = kind ≤ 16
 
 abbrev μ-loop : tie.MeasureT-loop
-μ-loop t kind₀ kind = 17 - kind
+μ-loop t kind₀ kind = 16 - kind
 
 loop-holds : tie.Need-loop-holds Inv-loop μ-loop
 loop-holds c = search needs
@@ -25,10 +25,13 @@ loop-less c = search needs
 loop-again : tie.Need-loop-again Inv-loop μ-loop
 loop-again c = search needs
 
+print-line-requires-2 : tie.Need-print-line-requires-2 Inv-loop μ-loop
+print-line-requires-2 c κs = search needs
+
 returns : tie.Need-returns Inv-loop μ-loop
 returns c = search needs
 
 pub print-tally-spec : {M : Type 1} → statement M
 print-tally-spec =
     tie.close
-    (tie.spec Inv-loop μ-loop loop-holds print-line-requires add-kind loop-less loop-again returns)
+    (tie.spec Inv-loop μ-loop loop-holds print-line-requires add-kind loop-less loop-again print-line-requires-2 returns)
