@@ -1,7 +1,13 @@
 // Reads a sequence header from standard input, and prints its fields.
+ghost use mathlib.Core.List.{[], _∷_, _++_};
 ghost use mathlib.Core.Path.{_≡_};
-ghost use Prim.Native.Nat.{_<_, _≤_};
-ghost use lib.ListN.{length};
+ghost use Prim.Native.Nat.{_+_};
+ghost use lib.ListN.{length, take};
+ghost use Rattle.io.specs.Counts.{Counts};
+ghost use Rattle.text.specs.Text.{Put, nexts, row, line};
+ghost use Rattle.seqhdr.specs.Fields.{startText, sizeText, toolsText, filtersText, fieldsText};
+ghost use Rattle.seqhdr.specs.Fields.{columnsText, rowsText, layoutText, headerText};
+ghost use Rattle.seqhdr.specs.Print.{acceptedText, refusalText, readText, seqhdrText};
 ghost use Rattle.seqhdr.specs.Request.{isRequest, seqRequest};
 use answers::Answer;
 use answers::is_refusal;
@@ -11,11 +17,16 @@ use getbits::Place;
 use lent::position_of;
 use libc::STDIN_FILENO;
 use libc::STDOUT_FILENO;
+use program::put_refused;
 use program::report_written;
 use seq_hdr::SeqRead;
 use seq_hdr::parse_seq_hdr;
 use seq_record::SequenceHeader;
 use seq_record::no_seq_hdr;
+use text::put_filled;
+use text::put_line;
+use text::put_row;
+use text::put_word;
 use tile_layout::TileInfo;
 
 fn is_request(s: &[u8]) -> bool
@@ -47,315 +58,319 @@ fn request(s: &[u8]) -> SeqRead
     }
 }
 
-fn print(text: &[u8]) {
-    io::write_all(STDOUT_FILENO, text);
-}
-
-// The first bytes of the output: where they can't be written, it is said.
-fn print_first(text: &[u8]) {
-    report_written(io::write_all(STDOUT_FILENO, text));
-}
-
-fn print_number(n: u64) {
-    io::print_decimal(STDOUT_FILENO, n);
-}
-
-// A blank and a number.
-fn print_next(n: u64) {
-    print(b" ");
-    print_number(n);
-}
-
-fn magnitude(n: i64) -> u64 {
-    if n < 0 {
-        return (-1 - n) as u64 + 1;
-    }
-    n as u64
-}
-
-// A blank and a signed number.
-fn print_signed(n: i64) {
-    if n < 0 {
-        print(b" -");
-        print_number(magnitude(n));
-    } else {
-        print_next(magnitude(n));
-    }
-}
-
-fn print_at(flat: &[i64], i: usize) {
-    if i < flat.len() {
-        print_signed(flat[i]);
-    }
-}
-
-// The n numbers of a field from `first` on.
-fn print_list(name: &[u8], flat: &[i64], first: usize, n: usize)
-    requires { ⌜ (first < 1000) × (n < 1000) ⌝ }
+// The start, the level, the format, layers and their dependencies.
+fn put_start(out: &mut [u8], at: usize, xs: &[i64]) -> usize
+    ensures { λ r. ⌜ Put 6111 (now (out .entry)) at (startText (now (xs .entry))) (now (out .exit)) r ⌝ }
 {
-    print(name);
-    let mut i: usize = 0;
-    while i < n {
-        print_at(flat, first + i);
-        i += 1;
-    }
-    print(b"\n");
-}
-
-// Where the line that begins at `from` ends.
-fn line_end(names: &[u8], from: usize) -> usize
-    requires { ⌜ from ≤ length (now names) ⌝ }
-    ensures { λ r. ⌜ (from ≤ r) × (r ≤ length (now (names .entry))) ⌝ }
-{
-    let mut to = from;
-    while to < names.len() && names[to] != b'\n' {
-        to += 1;
-    }
-    to
-}
-
-fn print_field(names: &[u8], from: usize, to: usize, flat: &[i64], i: usize)
-    requires { ⌜ (from ≤ to) × (to ≤ length (now names)) ⌝ }
-{
-    print(&names[from..to]);
-    print_at(flat, i);
-    print(b"\n");
-}
-
-// Fields of one number each, from `first` on: the names are lines.
-fn print_fields(names: &[u8], flat: &[i64], first: usize)
-    requires { ⌜ (first < 1000) × (length (now names) < 1000) ⌝ }
-{
-    let mut i = first;
-    let mut from: usize = 0;
-    while from < names.len() {
-        let to = line_end(names, from);
-        print_field(names, from, to, flat, i);
-        i += 1;
-        from = to + 1;
-    }
-}
-
-fn print_start(flat: &[i64]) {
-    print_fields(
-        b"id\nprofile\nreduced_still_picture_header\nlevel\ntier\n",
-        flat,
+    let first = put_filled(
+        out,
+        at,
+        b"id #\n\
+          profile #\n\
+          reduced_still_picture_header #\n\
+          level #\n\
+          tier #\n\
+          layout #\n\
+          ss_hor #\n\
+          ss_ver #\n\
+          hbd #\n\
+          lcr_id #\n\
+          still_picture #\n\
+          max_tlayer_id #\n\
+          max_mlayer_id #\n",
+        xs,
         0,
     );
-    print_fields(b"layout\nss_hor\nss_ver\nhbd\n", flat, 5);
-    print_fields(
-        b"lcr_id\nstill_picture\nmax_tlayer_id\nmax_mlayer_id\n",
-        flat,
-        9,
-    );
-    print_fields(
-        b"tlayer_dependency_present\nmlayer_dependency_present\n",
-        flat,
+    let second = put_filled(
+        out,
+        first,
+        b"tlayer_dependency_present #\n\
+          mlayer_dependency_present #\n\
+          tlayer_dependencies # # # # # # # #\n\
+          mlayer_dependencies # # # # # # # #\n",
+        xs,
         23,
     );
-    print_list(b"tlayer_dependencies", flat, 25, 8);
-    print_list(b"mlayer_dependencies", flat, 33, 8);
-    print_fields(b"monotonic\n", flat, 13);
-    print_fields(b"max_width\nmax_height\n", flat, 16);
-    print_fields(b"width_n_bits\nheight_n_bits\n", flat, 14);
-    print_fields(
-        b"crop.enabled\ncrop.left\ncrop.right\ncrop.top\ncrop.bottom\n",
-        flat,
-        18,
-    );
+    put_filled(out, second, b"monotonic #\n", xs, 13)
 }
 
-fn print_blocks(flat: &[i64]) {
-    print_fields(
-        b"sb128\nsdp\next_sdp\next_partitions\nuneven_4way_partitions\nmax_pb_aspect_ratio_log2\n",
-        flat,
+// The frame size and the crop window.
+fn put_size(out: &mut [u8], at: usize, xs: &[i64]) -> usize
+    ensures { λ r. ⌜ Put 2541 (now (out .entry)) at (sizeText (now (xs .entry))) (now (out .exit)) r ⌝ }
+{
+    let first = put_filled(
+        out,
+        at,
+        b"max_width #\n\
+          max_height #\n",
+        xs,
+        16,
+    );
+    let second = put_filled(
+        out,
+        first,
+        b"width_n_bits #\n\
+          height_n_bits #\n",
+        xs,
+        14,
+    );
+    put_filled(
+        out,
+        second,
+        b"crop.enabled #\n\
+          crop.left #\n\
+          crop.right #\n\
+          crop.top #\n\
+          crop.bottom #\n",
+        xs,
+        18,
+    )
+}
+
+// Blocks, inter tools, transforms and entropy coding.
+fn put_tools(out: &mut [u8], at: usize, xs: &[i64]) -> usize
+    ensures { λ r. ⌜ Put 24549 (now (out .entry)) at (toolsText (now (xs .entry))) (now (out .exit)) r ⌝ }
+{
+    let first = put_filled(
+        out,
+        at,
+        b"sb128 #\n\
+          sdp #\n\
+          ext_sdp #\n\
+          ext_partitions #\n\
+          uneven_4way_partitions #\n\
+          max_pb_aspect_ratio_log2 #\n\
+          segmentation.ext #\n\
+          segmentation.info_present #\n\
+          segmentation.adaptive #\n\
+          segmentation.d.delta_q # # # # # # # # # # # # # # # #\n\
+          segmentation.d.delta_q_mask #\n\
+          segmentation.d.skip_mask #\n\
+          segmentation.d.globalmv_mask #\n\
+          intra_dip #\n\
+          intra_edge_filter #\n\
+          mrls #\n\
+          cfl #\n\
+          cfl_ds_filter_index #\n\
+          mhccp #\n\
+          ibp #\n",
+        xs,
         41,
     );
-    print_fields(
-        b"segmentation.ext\nsegmentation.info_present\nsegmentation.adaptive\n",
-        flat,
-        47,
-    );
-    print_list(b"segmentation.d.delta_q", flat, 50, 16);
-    print_fields(
-        b"segmentation.d.delta_q_mask\nsegmentation.d.skip_mask\nsegmentation.d.globalmv_mask\n",
-        flat,
-        66,
-    );
-    print_fields(
-        b"intra_dip\nintra_edge_filter\nmrls\ncfl\ncfl_ds_filter_index\nmhccp\nibp\n",
-        flat,
-        69,
-    );
-}
-
-fn print_inter(flat: &[i64]) {
-    print_fields(
-        b"motion_modes\nframe_motion_modes_present\nsix_param_warp_delta\nmasked_compound\n",
-        flat,
+    let second = put_filled(
+        out,
+        first,
+        b"motion_modes #\n\
+          frame_motion_modes_present #\n\
+          six_param_warp_delta #\n\
+          masked_compound #\n\
+          ref_frame_mvs #\n\
+          reduced_ref_frame_mvs_mode #\n\
+          order_hint_n_bits #\n\
+          refmv_bank #\n\
+          drl_reorder #\n\
+          explicit_ref_frame_map #\n\
+          ref_frames #\n\
+          ref_frames_log2 #\n\
+          number_of_bits_for_lt_frame_id #\n\
+          def_max_drl_bits #\n\
+          allow_frame_max_drl_bits #\n\
+          def_max_bvp_drl_bits #\n\
+          allow_max_bvp_drl_bits #\n\
+          num_same_ref_comp #\n\
+          tip #\n\
+          tip_hole_fill #\n\
+          mv_traj #\n\
+          bawp #\n\
+          cwp #\n\
+          imp_msk_bld #\n\
+          db_sub_pu #\n\
+          tip_explicit_qp #\n\
+          opfl_refine #\n\
+          refine_mv #\n\
+          tip_refine_mv #\n\
+          bru #\n\
+          adaptive_mvd #\n\
+          mvd_sign_derive #\n\
+          flex_mvres #\n\
+          global_motion #\n\
+          short_refresh_frame_flags #\n\
+          screen_content_tools #\n\
+          force_integer_mv #\n",
+        xs,
         76,
     );
-    print_fields(
-        b"ref_frame_mvs\nreduced_ref_frame_mvs_mode\norder_hint_n_bits\n",
-        flat,
-        80,
-    );
-    print_fields(
-        b"refmv_bank\ndrl_reorder\nexplicit_ref_frame_map\nref_frames\nref_frames_log2\n",
-        flat,
-        83,
-    );
-    print_fields(
-        b"number_of_bits_for_lt_frame_id\ndef_max_drl_bits\nallow_frame_max_drl_bits\n",
-        flat,
-        88,
-    );
-    print_fields(
-        b"def_max_bvp_drl_bits\nallow_max_bvp_drl_bits\nnum_same_ref_comp\n",
-        flat,
-        91,
-    );
-    print_fields(
-        b"tip\ntip_hole_fill\nmv_traj\nbawp\ncwp\nimp_msk_bld\ndb_sub_pu\ntip_explicit_qp\n",
-        flat,
-        94,
-    );
-    print_fields(
-        b"opfl_refine\nrefine_mv\ntip_refine_mv\nbru\nadaptive_mvd\nmvd_sign_derive\n",
-        flat,
-        102,
-    );
-    print_fields(
-        b"flex_mvres\nglobal_motion\nshort_refresh_frame_flags\n",
-        flat,
-        108,
-    );
-    print_fields(b"screen_content_tools\nforce_integer_mv\n", flat, 111);
+    put_filled(
+        out,
+        second,
+        b"fsc #\n\
+          idtx_intra #\n\
+          ist # #\n\
+          chroma_dctonly #\n\
+          inter_ddt #\n\
+          reduced_tx_part_set #\n\
+          cctx #\n\
+          tcq #\n\
+          parity_hiding #\n\
+          avg_cdf #\n\
+          avg_cdf_type #\n",
+        xs,
+        113,
+    )
 }
 
-fn print_residual(flat: &[i64]) {
-    print_fields(b"fsc\nidtx_intra\n", flat, 113);
-    print_list(b"ist", flat, 115, 2);
-    print_fields(
-        b"chroma_dctonly\ninter_ddt\nreduced_tx_part_set\ncctx\n",
-        flat,
-        117,
-    );
-    print_fields(b"tcq\nparity_hiding\navg_cdf\navg_cdf_type\n", flat, 121);
-    print_fields(
-        b"disable_loopfilters_across_tiles\ncdef\ngdf\ngdf_unit_matches_sbsz\nrestoration\n",
-        flat,
+// Loop filters, quantisation, and whether a layout is present.
+fn put_filters(out: &mut [u8], at: usize, xs: &[i64]) -> usize
+    ensures { λ r. ⌜ Put 6762 (now (out .entry)) at (filtersText (now (xs .entry))) (now (out .exit)) r ⌝ }
+{
+    let first = put_filled(
+        out,
+        at,
+        b"disable_loopfilters_across_tiles #\n\
+          cdef #\n\
+          gdf #\n\
+          gdf_unit_matches_sbsz #\n\
+          restoration #\n\
+          rst_disable_mask # #\n\
+          ccso #\n\
+          ccso_unit_matches_sbsz #\n\
+          cdef_on_skiptx #\n\
+          df_par_bits #\n",
+        xs,
         133,
     );
-    print_list(b"rst_disable_mask", flat, 138, 2);
-    print_fields(
-        b"ccso\nccso_unit_matches_sbsz\ncdef_on_skiptx\ndf_par_bits\n",
-        flat,
-        140,
-    );
-    print_fields(
-        b"separate_uv_delta_q\nequal_ac_dc_q\nbase_ydc_dq\nydc_dq_enabled\n",
-        flat,
+    let second = put_filled(
+        out,
+        first,
+        b"separate_uv_delta_q #\n\
+          equal_ac_dc_q #\n\
+          base_ydc_dq #\n\
+          ydc_dq_enabled #\n\
+          base_uvdc_dq #\n\
+          uvdc_dq_enabled #\n\
+          base_uvac_dq #\n\
+          uvac_dq_enabled #\n",
+        xs,
         125,
     );
-    print_fields(
-        b"base_uvdc_dq\nuvdc_dq_enabled\nbase_uvac_dq\nuvac_dq_enabled\n",
-        flat,
-        129,
+    put_filled(out, second, b"tiling.present #\n", xs, 144)
+}
+
+// All of the header's numbers but the layout and the last.
+fn put_fields(out: &mut [u8], at: usize, xs: &[i64]) -> usize
+    ensures { λ r. ⌜ Put 39963 (now (out .entry)) at (fieldsText (now (xs .entry))) (now (out .exit)) r ⌝ }
+{
+    let start = put_start(out, at, xs);
+    let size = put_size(out, start, xs);
+    let tools = put_tools(out, size, xs);
+    put_filters(out, tools, xs)
+}
+
+// A name and 65 starts.
+fn put_starts(out: &mut [u8], at: usize, name: &[u8], starts: &[u16; 65]) -> usize
+    ensures { λ r. ⌜ Put (length (now (name .entry)) + 1366) (now (out .entry)) at (now (name .entry) ++ line (row (take 65 (now (starts .entry))))) (now (out .exit)) r ⌝ }
+{
+    let next = put_word(out, at, name);
+    put_row(out, next, starts, 65)
+}
+
+// A name and a number.
+fn put_field(out: &mut [u8], at: usize, name: &[u8], n: u64) -> usize
+    ensures { λ r. ⌜ Put (length (now (name .entry)) + 22) (now (out .entry)) at (line (now (name .entry) ++ nexts (n ∷ []))) (now (out .exit)) r ⌝ }
+{
+    put_line(out, at, name, &[n])
+}
+
+fn put_columns(out: &mut [u8], at: usize, t: TileInfo) -> usize
+    ensures { λ r. ⌜ Put 201 (now (out .entry)) at (columnsText t) (now (out .exit)) r ⌝ }
+{
+    let uniform = put_field(out, at, b"tiling.t.uniform", t.uniform as u64);
+    let min = put_field(
+        out,
+        uniform,
+        b"tiling.t.min_log2_cols",
+        t.min_log2_cols as u64,
     );
+    let max = put_field(out, min, b"tiling.t.max_log2_cols", t.max_log2_cols as u64);
+    let log = put_field(out, max, b"tiling.t.log2_cols", t.log2_cols as u64);
+    put_field(out, log, b"tiling.t.cols", t.cols as u64)
 }
 
-fn print_start_sb(starts: &[u16], i: usize) {
-    if i < starts.len() {
-        print_number(starts[i] as u64);
-    }
+fn put_rows(out: &mut [u8], at: usize, t: TileInfo) -> usize
+    ensures { λ r. ⌜ Put 163 (now (out .entry)) at (rowsText t) (now (out .exit)) r ⌝ }
+{
+    let min = put_field(out, at, b"tiling.t.min_log2_rows", t.min_log2_rows as u64);
+    let max = put_field(out, min, b"tiling.t.max_log2_rows", t.max_log2_rows as u64);
+    let log = put_field(out, max, b"tiling.t.log2_rows", t.log2_rows as u64);
+    put_field(out, log, b"tiling.t.rows", t.rows as u64)
 }
 
-fn print_blank_and_start_sb(starts: &[u16], i: usize) {
-    print(b" ");
-    print_start_sb(starts, i);
-}
-
-// All of the starts.
-fn print_starts(starts: &[u16]) {
-    print_start_sb(starts, 0);
-    for i in 1..65 {
-        print_blank_and_start_sb(starts, i);
-    }
-}
-
-fn print_line(name: &[u8], starts: [u16; 65]) {
-    print(name);
-    print_starts(&starts);
-    print(b"\n");
-}
-
-fn print_layout(t: TileInfo) {
-    let info = [
-        t.uniform as i64,
-        t.min_log2_cols as i64,
-        t.max_log2_cols as i64,
-        t.log2_cols as i64,
-        t.cols as i64,
-        t.min_log2_rows as i64,
-        t.max_log2_rows as i64,
-        t.log2_rows as i64,
-        t.rows as i64,
-    ];
-    print_fields(
-        b"tiling.t.uniform\ntiling.t.min_log2_cols\ntiling.t.max_log2_cols\ntiling.t.log2_cols\ntiling.t.cols\ntiling.t.min_log2_rows\ntiling.t.max_log2_rows\ntiling.t.log2_rows\ntiling.t.rows\n",
-        &info,
-        0,
-    );
-    let col_start_sb = t.col_start_sb;
-    let row_start_sb = t.row_start_sb;
-    print_line(b"tiling.t.col_start_sb ", col_start_sb);
-    print_line(b"tiling.t.row_start_sb ", row_start_sb);
+fn put_layout(out: &mut [u8], at: usize, t: TileInfo) -> usize
+    ensures { λ r. ⌜ Put 3140 (now (out .entry)) at (layoutText t) (now (out .exit)) r ⌝ }
+{
+    let cols = t.col_start_sb;
+    let rows = t.row_start_sb;
+    let first = put_columns(out, at, t);
+    let second = put_rows(out, first, t);
+    let third = put_starts(out, second, b"tiling.t.col_start_sb ", &cols);
+    put_starts(out, third, b"tiling.t.row_start_sb ", &rows)
 }
 
 // The fields in the order of the Rust's declaration.
-fn print_header(hdr: SequenceHeader) {
-    let mut flat = [0i64; 285];
+fn put_header(out: &mut [u8], at: usize, hdr: SequenceHeader) -> usize
+    ensures { λ r. ⌜ Put 43544 (now (out .entry)) at (headerText hdr) (now (out .exit)) r ⌝ }
+{
+    let mut flat = [0i64; 146];
     put_seq_hdr(hdr, &mut flat);
-    print_start(&flat);
-    print_blocks(&flat);
-    print_inter(&flat);
-    print_residual(&flat);
-    print_fields(b"tiling.present\n", &flat, 144);
     let tiling = hdr.tiling;
     let t = tiling.t;
-    print_layout(t);
-    print_fields(b"film_grain_present\n", &[hdr.film_grain_present as i64], 0);
+    let first = put_fields(out, at, &flat);
+    let second = put_layout(out, first, t);
+    put_filled(out, second, b"film_grain_present #\n", &flat, 145)
 }
 
-fn print_place(p: Place) {
-    print_next(position_of(p) as u64);
-    print_next(p.error as u64);
-    print(b"\n");
+fn put_accepted(out: &mut [u8], hdr: SequenceHeader, next: Place) -> usize
+    ensures { λ r. ⌜ Put 43589 (now (out .entry)) 0 (acceptedText hdr next) (now (out .exit)) r ⌝ }
+{
+    let xs = [position_of(next) as u64, next.error as u64];
+    let head = put_line(out, 0, b"ok", &xs);
+    put_header(out, head, hdr)
 }
 
-fn print_refusal(n: u32, p: Place) {
-    print_first(b"no");
-    print_next(n as u64);
+fn put_refusal(out: &mut [u8], n: u32, next: Place) -> usize
+    ensures { λ r. ⌜ Put 66 (now (out .entry)) 0 (refusalText n next) (now (out .exit)) r ⌝ }
+{
     if n == 4 {
-        print(b"\n");
-    } else {
-        print_place(p);
+        return put_refused(out, 0, n);
     }
+    let xs = [n as u64, position_of(next) as u64, next.error as u64];
+    put_line(out, 0, b"no", &xs)
+}
+
+fn put_read(out: &mut [u8], r: SeqRead) -> usize
+    ensures { λ n. ⌜ Put 43589 (now (out .entry)) 0 (readText r) (now (out .exit)) n ⌝ }
+{
+    let answer = r.answer;
+    let next = r.next;
+    if is_refusal(answer) {
+        return put_refusal(out, number(answer), next);
+    }
+    let hdr = r.hdr;
+    put_accepted(out, hdr, next)
+}
+
+// From the input's bytes to the output's.
+fn seqhdr_text(input: &[u8], out: &mut [u8; 43589]) -> usize
+    ensures { λ r. ⌜ Counts r (now (out .exit)) ⌝ }
+    ensures { λ r. ⌜ take r (now (out .exit)) ≡ seqhdrText (now (input .entry)) ⌝ }
+{
+    put_read(out, request(input))
 }
 
 fn main() {
     let mut input = [0u8; 65537];
     let n = io::read_full(STDIN_FILENO, &mut input);
-    let r = request(&input[..n]);
-    let answer = r.answer;
-    let next = r.next;
-    if is_refusal(answer) {
-        print_refusal(number(answer), next);
-    } else {
-        let hdr = r.hdr;
-        print_first(b"ok");
-        print_place(next);
-        print_header(hdr);
-    }
+    let mut out = [0u8; 43589];
+    let k = seqhdr_text(&input[..n], &mut out);
+    report_written(io::write_all(STDOUT_FILENO, &out[..k]));
 }

@@ -4,9 +4,9 @@ use Prim.Native.Char.{code}
 use Prim.Native.String.{String, [] as empty, _∷_ as _then_}
 use mathlib.Core.List.{List, [], _∷_, _++_}
 use mathlib.Core.Path.{_≡_}
-use lib.Dec.{ltb}
+use lib.Dec.{ltb, eqb}
 use lib.IntN.{ℤ, pos, negsuc}
-use lib.ListN.{length}
+use lib.ListN.{length, getD}
 use lib.Seq.{sets}
 use Rattle.getbits.specs.Chain.{pick}
 
@@ -35,6 +35,9 @@ newline = 10
 abbrev pub minus : ℕ
 minus = 45
 
+abbrev pub mark : ℕ
+mark = 35
+
 abbrev pub digit : ℕ → ℕ
 digit d = 48 + d
 
@@ -62,9 +65,19 @@ unfoldable pub row : List ℕ → List ℕ
 row [] = []
 row (x ∷ xs) = decimal x ++ nexts xs
 
+-- a template, each # of it replaced by the next of some numbers from the i-th on; 0 where there is none
+unfoldable pub filled : List ℕ → List ℤ → ℕ → List ℕ
+filled [] xs i = []
+filled (c ∷ cs) xs i = pick (eqb c mark) (signed (getD xs i (pos 0)) ++ filled cs xs (suc i)) (c ∷ filled cs xs i)
+
 -- a line of bytes ends
 abbrev pub line : List ℕ → List ℕ
 line bytes = bytes ++ (newline ∷ [])
+
+-- words, a line each
+unfoldable pub lines : List String → List ℕ
+lines [] = []
+lines (s ∷ ss) = line (word s) ++ lines ss
 
 -- the number that digits write, read from the left, v before them
 unfoldable pub valueFrom : ℕ → List ℕ → ℕ

@@ -3,10 +3,11 @@
 ghost use mathlib.Core.Path.{_≡_};
 ghost use mathlib.Core.List.{[], _∷_, _++_};
 ghost use Prim.Native.Nat.{_+_, _*_, _<_, min};
-ghost use lib.ListN.{length, take};
-ghost use lib.IntN.{natAbs};
+ghost use lib.ListN.{length, getD, take};
+ghost use lib.Dec.{eqb};
+ghost use lib.IntN.{natAbs, pos};
 ghost use Rattle.getbits.specs.Chain.{pick};
-ghost use Rattle.text.specs.Text.{Put, blank, decimal, signed, nexts, row, line};
+ghost use Rattle.text.specs.Text.{Put, blank, decimal, mark, signed, nexts, row, filled, line};
 ghost use Rattle.text.specs.Text.{digit as Text·digit};
 
 pub fn put_byte(out: &mut [u8], at: usize, b: u8) -> usize
@@ -139,4 +140,48 @@ pub fn put_row(out: &mut [u8], at: usize, xs: &[u16], n: usize) -> usize
 {
     let end = put_items(out, at, xs, n);
     put_byte(out, end, b'\n')
+}
+
+// The k-th number from the `first` on, and 0 where there is none.
+fn number_at(xs: &[i64], first: usize, k: usize) -> i64
+    ensures { λ r. ⌜ r ≡ getD (now (xs .entry)) (first + k) (pos 0) ⌝ }
+{
+    if first < xs.len() {
+        if k < xs.len() - first {
+            return xs[first + k];
+        }
+    }
+    0
+}
+
+// A byte of a template: a # stands for the number.
+fn put_filler(out: &mut [u8], at: usize, c: u8, x: i64) -> usize
+    ensures { λ r. ⌜ Put 21 (now (out .entry)) at (pick (eqb c mark) (signed x) (c ∷ [])) (now (out .exit)) r ⌝ }
+{
+    if c == b'#' {
+        return put_signed(out, at, x);
+    }
+    put_byte(out, at, c)
+}
+
+fn used_by(c: u8) -> usize
+    ensures { λ r. ⌜ (r ≡ pick (eqb c mark) 1 0) × (r < 2) ⌝ }
+{
+    if c == b'#' { 1 } else { 0 }
+}
+
+// A template with its # replaced by the numbers from the `first` on.
+pub fn put_filled(out: &mut [u8], at: usize, template: &[u8], xs: &[i64], first: usize) -> usize
+    ensures { λ r. ⌜ Put (21 * length (now (template .entry))) (now (out .entry)) at (filled (now (template .entry)) (now (xs .entry)) first) (now (out .exit)) r ⌝ }
+{
+    let mut next = at;
+    let mut i = 0;
+    let mut k = 0;
+    while i < template.len() {
+        let c = template[i];
+        next = put_filler(out, next, c, number_at(xs, first, k));
+        k += used_by(c);
+        i += 1;
+    }
+    next
 }
