@@ -9,14 +9,6 @@ pub fn umin(a: u32, b: u32) -> u32
     if a < b { a } else { b }
 }
 
-// 2 ^ n
-pub fn power(n: u32) -> u32
-    requires { ⌜ n < 32 ⌝ }
-    ensures { λ r. ⌜ (r ≡ 2 ^ n) × (1 ≤ r) × (r ≤ 2 ^ 31) ⌝ }
-{
-    1 << n
-}
-
 // The logarithm of a number that is not 0, rounded down.
 pub fn ulog2(v: u32) -> u32
     requires { ⌜ (1 ≤ v) × (v < 2 ^ 31) ⌝ }

@@ -8,6 +8,7 @@ use getbits::Place;
 use getbits::Signed;
 use getbits::get_bit;
 use getbits::look;
+use getbits::power;
 use getbits::read_bits;
 use getbits::refuse;
 use getbits::remaining_bytes;
@@ -15,7 +16,6 @@ use getbits::remaining_bytes;
 mod intops;
 
 use intops::inv_recenter;
-use intops::power;
 use intops::ulog2;
 use intops::umin;
 

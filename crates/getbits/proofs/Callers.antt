@@ -1,8 +1,8 @@
--- What callers may use of a reading: its value's bound, where it ends, its error, and what it depends on. Assumes nothing.
-use mathlib.Core.Path.{_≡_, refl, sym, _∙_, subst}
+-- What callers may use of a reading: its value's bound, where it ends, its error, and what it depends on; and of `power`. Assumes nothing.
+use mathlib.Core.Path.{_≡_, refl, sym, ap, _∙_, subst}
 use mathlib.Core.List.{List}
 use mathlib.Core.Bool.{true, false}
-use Prim.Native.Nat.{ℕ, zero, suc, _+_, _-_, _*_, _^_, _≤_, _<_, min}
+use Prim.Native.Nat.{ℕ, zero, suc, _+_, _-_, _*_, _%_, _^_, _≤_, _<_, min}
 use native.Mathlib.Nat.{le-refl, add-zero}
 use native.Mathlib.Omega.{arith}
 use borrow.Author.Tests.{le-leb, lt-leb, leb-true, leb-false}
@@ -107,3 +107,9 @@ pub bits-local : (s t : List ℕ) (i n : ℕ) → ((k : ℕ) → k < n → bitAt
 unfolding bitsAt
 bits-local s t i zero h = refl
 bits-local s t i (suc n) h = rw (bits-local s t i n (λ k l. h k (omega arith)), h n (omega arith))
+
+-- power, where n is below 32
+pub power-below : {r n : ℕ} → n < 32 → r ≡ 2 ^ (n % 32) → r ≡ 2 ^ n
+power-below {r} {n} h e =
+    let f : n % 32 ≡ n = omega arith in
+    e ∙ ap (λ (x : ℕ). 2 ^ x) f

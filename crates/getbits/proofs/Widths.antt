@@ -17,7 +17,7 @@ use Rattle.getbits.specs.Bits.{refused, getBits, signedOf}
 use Rattle.getbits.specs.declared.Place.{Place}
 use Rattle.getbits.specs.declared.Number.{Number}
 use Rattle.getbits.proofs.Places.{lt-or-le}
-use Rattle.getbits.proofs.Callers.{width-in, width-over, read-lt}
+use Rattle.getbits.proofs.Callers.{width-over, as-read, read-none, read-lt}
 use mathlib.Core.Logic.{⊎-elim}
 
 -- a number that is not negative is itself without its sign
@@ -34,12 +34,14 @@ unfolding getBits
 width-negative s p (pos n) h = absurd (not-suc-le-zero (ltb-true n 0 h))
 width-negative s p (negsuc n) h = refl
 
--- an answer other than 0 came from a width of 0 to 32, and is below 2 ^ width
-pub bits-known : (s : List ℕ) (p : Place) (z : ℤ) (r : Number) → r ≡ getBits s p z → (r .value ≡ 0 → ⊥) → T (nonNeg z) × (natAbs z ≤ 32) × (r .value < 2 ^ natAbs z)
-bits-known s p (pos n) r e h =
-    ⊎-elim (λ k. absurd (h (ap (λ (x : Number). x .value) (e ∙ sym (width-over s p n k)))))
-    (λ k. (tt, k, rw (e ∙ sym (width-in s p n k)) (read-lt s p n)))
-    (lt-or-le 32 n)
+-- an answer other than 0 came from a width of 1 to 32, and is below 2 ^ width
+pub bits-known : (s : List ℕ) (p : Place) (z : ℤ) (r : Number) → r ≡ getBits s p z → (r .value ≡ 0 → ⊥)
+    → T (nonNeg z) × (1 ≤ natAbs z) × (natAbs z ≤ 32) × (r .value < 2 ^ natAbs z)
+bits-known s p (pos zero) r e h = absurd (h (ap (λ (x : Number). x .value) (as-read s p 0 (omega arith) e ∙ read-none s p)))
+bits-known s p (pos (suc n)) r e h =
+    ⊎-elim (λ k. absurd (h (ap (λ (x : Number). x .value) (e ∙ sym (width-over s p (suc n) k)))))
+    (λ k. (tt, omega arith, k, rw (as-read s p (suc n) k e) (read-lt s p (suc n))))
+    (lt-or-le 32 (suc n))
 bits-known s p (negsuc n) r e h = absurd (h (ap (λ (x : Number). x .value) (e ∙ sym (width-negative s p (negsuc n) refl))))
 
 -- a signed number that a call returned, read back from its bits

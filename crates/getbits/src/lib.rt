@@ -1,6 +1,6 @@
 // The bit reader, by value: a place goes in beside the bytes, and the next place comes back.
 ghost use mathlib.Core.Path.{_≡_};
-ghost use Prim.Native.Nat.{_+_, _*_, _-_, _^_, _<_, _≤_};
+ghost use Prim.Native.Nat.{_+_, _*_, _-_, _%_, _^_, _<_, _≤_};
 ghost use lib.IntN.{pos, negsuc};
 ghost use lib.ListN.{length, drop};
 ghost use Rattle.getbits.specs.Bits.{settled, runOut, refused, lookAt, getBit, getBits, signedOf, getSbits, bytePos, byteAlign, bitsIf, getFlag, flagIf};
@@ -155,24 +155,23 @@ pub fn get_bits(s: &[u8], p: Place, n: i32) -> Number
     read_bits(s, p, n as u32)
 }
 
-fn power(n: u32) -> u64
-    requires { ⌜ n ≤ 32 ⌝ }
-    ensures { λ r. ⌜ (r ≡ 2 ^ n) × (1 ≤ r) × (r ≤ 2 ^ 32) ⌝ }
+// 2 ^ n, for n below 32.
+pub fn power(n: u32) -> u32
+    ensures { λ r. ⌜ (r ≡ 2 ^ (n % 32)) × (1 ≤ r) × (r ≤ 2 ^ 31) ⌝ }
 {
-    1 << n
+    1 << (n % 32)
 }
 
 // The number of n bits with the top one as sign.
 fn sign(v: u32, n: u32) -> i32
-    requires { ⌜ (n ≤ 32) × (v < 2 ^ n) ⌝ }
+    requires { ⌜ (1 ≤ n) × (n ≤ 32) × (v < 2 ^ n) ⌝ }
     ensures { λ r. ⌜ r ≡ signedOf n v ⌝ }
 {
-    let t = power(n);
-    let w = v as u64;
-    if 2 * w < t {
+    let half = power(n - 1);
+    if v < half {
         return v as i32;
     }
-    below_zero((t - 1 - w) as u32)
+    below_zero(half - 1 - (v - half))
 }
 
 // -1 - x

@@ -10,6 +10,7 @@ ghost use Rattle.tile_layout.specs.Layout.{base, count, larger};
 ghost use Rattle.superblocks.specs.Counts.{multiplierOf, sizeOf, fitsUniform};
 use codes::get_uniform;
 use getbits::Place;
+use getbits::power;
 
 // A count of the sequence's superblocks.
 pub struct SeqSb(u32);
@@ -43,13 +44,6 @@ pub struct SeqStarts([u16; 65]);
 pub struct TileSize {
     pub size: FrameSb,
     pub next: Place,
-}
-
-// 2 ^ n, for n below 32.
-pub fn power(n: u8) -> u32
-    ensures { λ r. ⌜ (r ≡ 2 ^ (n % 32)) × (1 ≤ r) ⌝ }
-{
-    1 << (n % 32)
 }
 
 // Frame width and height are 1 to 65,536.
@@ -106,7 +100,7 @@ fn low_code(code: u8) -> u8
 fn sb_size(code: u8) -> u32
     ensures { λ r. ⌜ (r ≡ sizeOf code) × (64 ≤ r) × (r ≤ 256) ⌝ }
 {
-    64 * power(low_code(code))
+    64 * power(low_code(code) as u32)
 }
 
 // n samples in superblocks of a size, rounded up.
@@ -304,7 +298,7 @@ impl FrameSb {
     pub fn fits_uniform(self, log2: u8) -> bool
         ensures { λ r. ⌜ r ≡ fitsUniform (log2 % 32) (self .0) ⌝ }
     {
-        let tiles = wide(power(log2));
+        let tiles = wide(power(log2 as u32));
         let n = wide(self.0);
         let tile = (n + (tiles - 1)) / tiles;
         tile * (tiles - 1) < n
@@ -326,7 +320,7 @@ impl AreaSb {
         if widest_tile.0 == 0 {
             return FrameSb(1);
         }
-        FrameSb(umax(1, self.0 / power(log2) / widest_tile.0))
+        FrameSb(umax(1, self.0 / power(log2 as u32) / widest_tile.0))
     }
 }
 
@@ -400,7 +394,7 @@ pub fn read_size(s: &[u8], p: Place, rest: FrameSb, limit: FrameSb) -> TileSize
 pub fn even_split(fsb: SeqSb, ssb: SeqSb, log2: u8) -> Split
     ensures { λ r. ⌜ (r .tile .0 ≡ base (fsb .0) (log2 % 32)) × (r .tiles .0 ≡ count (fsb .0) (ssb .0) (log2 % 32)) × (r .extra .0 ≡ larger (fsb .0) (ssb .0) (log2 % 32)) ⌝ }
 {
-    let max_tiles = power(log2);
+    let max_tiles = power(log2 as u32);
     let tile = SeqSb(fsb.0 / max_tiles);
     if tile.0 == 0 {
         return Split {

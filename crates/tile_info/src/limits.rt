@@ -5,10 +5,10 @@ ghost use Rattle.tile_layout.specs.Limits.{inDomain, widthLimit, areaLimit};
 ghost use Rattle.tile_info.specs.Inner.{Known, Coded};
 use super::intops::one_if;
 use super::intops::umax;
+use getbits::power;
 use superblocks::AreaSb;
 use superblocks::FrameSb;
 use superblocks::Pair;
-use superblocks::power;
 use tile_layout::TileArgs;
 
 pub struct FrameLimits {
@@ -28,7 +28,7 @@ fn max_tile_width_sb(a: TileArgs, pair: Pair) -> FrameSb
     ensures { λ r. ⌜ r .0 ≡ widthLimit a ⌝ }
 {
     let w_adj = one_if(a.level >= 18) + one_if((a.level >= 14) & (a.tier == 1));
-    pair.width_limit(4096 * power(w_adj))
+    pair.width_limit(4096 * power(w_adj as u32))
 }
 
 fn max_tile_area_sb(a: TileArgs, pair: Pair) -> AreaSb
@@ -39,7 +39,7 @@ fn max_tile_area_sb(a: TileArgs, pair: Pair) -> AreaSb
     let sz_adj = one_if(a.level >= 14)
         + one_if(a.level >= 18)
         + one_if((a.level >= 14) & (a.tier == 1));
-    pair.area_limit(9_437_184 * power(sz_adj))
+    pair.area_limit(9_437_184 * power(sz_adj as u32))
 }
 
 pub fn frame_limits(a: TileArgs) -> FrameLimits

@@ -8,7 +8,7 @@ use borrow.Author.Needs.{needs}
 use lib.Pow.{pow-add}
 use Rattle.codes.proofs.Runs.{run-le}
 use Rattle.codes.specs.Codes.{plus, getGolomb}
-use Rattle.getbits.proofs.Callers.{as-read, read-lt}
+use Rattle.getbits.proofs.Callers.{as-read, read-lt, power-below}
 use Rattle.getbits.proofs.Chain.{through, taken, left}
 use Rattle.getbits.specs.declared.Number.{Number}
 use Rattle.getbits.specs.Bits.{readBits}
@@ -41,13 +41,15 @@ module _ (k : tie.After-power) where
   rest : k .before .before .read-bits .result ≡ readBits (run .before .before .before .args .s .now) (run .run .result .next) width
   rest = as-read _ _ width (omega (arith, run)) (k .before .before .read-bits .ensures)
 
+  twos : k .power .result ≡ 2 ^ width
+  twos = power-below (omega (arith, run)) (k .power .ensures .0)
+
   rest-lt : k .before .before .read-bits .result .value < k .power .result
-  rest-lt = omega (arith, read-lt (run .before .before .before .args .s .now) (run .run .result .next) width, ap (λ (x : Number). x .value) rest, k .power .ensures .0)
+  rest-lt = omega (arith, read-lt (run .before .before .before .args .s .now) (run .run .result .next) width, ap (λ (x : Number). x .value) rest, twos)
 
   bounded : run .run .result .value * k .power .result + k .power .result ≤ 2 ^ 32
   bounded =
-      let e = k .power .ensures .0 in
-      omega (arith, golomb-lt (run .run .result .value) width (omega (arith, ones run, run, k .before .before .before .if2 .left)), e, ap (λ (x : ℕ). run .run .result .value * x) e)
+      omega (arith, golomb-lt (run .run .result .value) width (omega (arith, ones run, run, k .before .before .before .if2 .left)), twos, ap (λ (x : ℕ). run .run .result .value * x) twos)
 
 returns : tie.Need-returns
 unfolding getGolomb
@@ -83,7 +85,7 @@ returns-3 c =
     ∙ through _ _ (r .run .ensures)
     ∙ left _ _ _ (ne-eqb (r .run .result .value + a .k) 32 (k .before .before .before .if2 .left))
     ∙ ap (plus (r .run .result .value * 2 ^ a .k)) (sym (rest k))
-    ∙ ap (λ (x : ℕ). plus (r .run .result .value * x) (k .before .before .read-bits .result)) (sym (k .power .ensures .0)))
+    ∙ ap (λ (x : ℕ). plus (r .run .result .value * x) (k .before .before .read-bits .result)) (sym (twos k)))
 
 pub get-golomb-spec : {M : Type 1} → statement M
 get-golomb-spec =

@@ -8,7 +8,7 @@ use borrow.Author.Needs.{needs}
 use lib.IntN.{pos}
 use lib.Dec.{ltb}
 use Rattle.codes.specs.Codes.{getUniform}
-use Rattle.getbits.proofs.Callers.{as-read, width-in, read-none, read-more, read-lt, bit-lt}
+use Rattle.getbits.proofs.Callers.{as-read, width-in, read-none, read-more, read-lt, bit-lt, power-below}
 use Rattle.getbits.proofs.Chain.{through, taken, left}
 use Rattle.getbits.specs.declared.Number.{Number}
 use Rattle.getbits.specs.declared.Place.{Place}
@@ -34,6 +34,9 @@ module _ (c : tie.After-power) where
   abbrev m : ℕ
   m = c .power .result - max
 
+  twos : c .power .result ≡ 2 ^ l
+  twos = power-below (omega arith) (c .power .ensures .0)
+
   module _ (r : Number) (e : r ≡ getBits s p (pos (l - 1))) where
     value-lt : r .value < 2 ^ c .before .ulog2 .result
     value-lt =
@@ -46,7 +49,7 @@ module _ (c : tie.After-power) where
         left _ _ _ (lt-leb max 1 (omega arith))
         ∙ left _ _ _ (lt-leb (2 ^ 31) max (omega arith))
         ∙ through _ _ (c .before .ulog2 .ensures .0)
-        ∙ through _ _ (ap (λ (x : ℕ). x - max) (c .power .ensures .0))
+        ∙ through _ _ (ap (λ (x : ℕ). x - max) twos)
         ∙ through _ _ (as-read s p (l - 1) (omega arith) e)
 
     short : r .value < m → r ≡ getUniform s p max
@@ -66,6 +69,9 @@ unfolding getUniform
 returns-2 c =
     let a = c .before .before .before .before .args in
     c .refuse .ensures ∙ sym (left _ _ _ (lt-leb (a .max) 1 (search needs)) ∙ taken _ _ _ (le-leb (2 ^ 31) (a .max) (search needs)))
+
+sub-m : tie.Need-sub-m
+sub-m c = omega (arith, twos c)
 
 -- l bits and more are there, and have been looked at
 module _ (d : tie.After-look) where
@@ -147,7 +153,7 @@ get-uniform-spec =
     (λ c κs. search needs)
     (λ c. search needs)
     (λ c κs. search needs)
-    (λ c. search needs)
+    sub-m
     (λ c κs. search needs)
     (λ c κs. search needs)
     (λ c. search needs)

@@ -9,7 +9,7 @@ use lib.IntN.{pos}
 use Rattle.getbits.specs.declared.Place.{Place}
 use Rattle.getbits.specs.Bits.{getBits}
 use Rattle.codes.specs.Codes.{plus, runOf, getVlc}
-use Rattle.getbits.proofs.Callers.{as-read, read-lt}
+use Rattle.getbits.proofs.Callers.{as-read, read-lt, power-below}
 use Rattle.getbits.proofs.Chain.{through, taken, left}
 use Rattle.getbits.specs.declared.Number.{Number}
 use Rattle.codes.proofs.get_vlc.Statement.{statement}
@@ -29,14 +29,14 @@ add-t11 c =
     let k = c .before .before .before .before .before .before in
     let z = k .run .result in
     let r = as-read (k .before .before .args .s .now) (z .next) (z .value) (omega arith) (c .before .before .before .read-bits .ensures) in
-    omega (arith, read-lt (k .before .before .args .s .now) (z .next) (z .value), ap (λ (x : Number). x .value) r)
+    omega (arith, read-lt (k .before .before .args .s .now) (z .next) (z .value), ap (λ (x : Number). x .value) r, power-below (omega arith) (c .before .power .ensures .0))
 
 returns : tie.Need-returns
 returns c =
     let k = c .before .before .before .before .before .before in
     let a = k .before .before .args in
     let r = c .before .before .before .read-bits in
-    vlc-read (a .s .now) (a .p) (k .run .result) (r .result) (k .run .ensures) (search needs) (r .ensures) (c .before .power .ensures .0)
+    vlc-read (a .s .now) (a .p) (k .run .result) (r .result) (k .run .ensures) (search needs) (r .ensures) (power-below (search needs) (c .before .power .ensures .0))
 
 returns-2 : tie.Need-returns-2
 unfolding getVlc

@@ -9,7 +9,7 @@ use lib.IntN.{pos}
 use lib.Dec.{leb, eqb}
 use Rattle.codes.proofs.Callers.{subexp-lt, pow-lt-only}
 use Rattle.codes.specs.Codes.{plus, getUniform, subexpFrom}
-use Rattle.getbits.proofs.Callers.{as-read}
+use Rattle.getbits.proofs.Callers.{as-read, power-below}
 use Rattle.getbits.proofs.Chain.{through, taken, left}
 use Rattle.getbits.specs.declared.Number.{Number}
 use Rattle.getbits.specs.declared.Place.{Place}
@@ -44,6 +44,9 @@ module _ (k : tie.After-power Inv-loop μ-loop) where
   abbrev b : ℕ
   b = k .before .step-bits .result
 
+  twos : k .power .result ≡ 2 ^ b
+  twos = power-below (omega (arith, k .before .step-bits .ensures, loop)) (k .power .ensures .0)
+
   abbrev whole : Number
   whole = subexpFrom 33 s (loop .before .before .args .p) n (loop .before .before .args .k) 0 0
 
@@ -60,7 +63,7 @@ module _ (k : tie.After-power Inv-loop μ-loop) where
   -- the rest of n as uniform
   rest : (r : Number) → r ≡ getUniform s q (n - v) → n ≤ v + 3 * k .power .result
       → plus v r ≡ whole
-  rest r e h = ap (plus v) e ∙ sym (opened ∙ taken _ _ _ (le-leb n (v + 3 * 2 ^ b) (omega (arith, k .power .ensures .0))))
+  rest r e h = ap (plus v) e ∙ sym (opened ∙ taken _ _ _ (le-leb n (v + 3 * 2 ^ b) (omega (arith, twos))))
 
   -- a number that is the whole reading's is below n
   within : (r : Number) → plus v r ≡ whole → v + r .value < 2 ^ 31
@@ -70,7 +73,7 @@ module _ (k : tie.After-power Inv-loop μ-loop) where
 
   module _ (g : Number) (e : g ≡ getBit s q) (h : v + 3 * k .power .result < n) where
     behind : whole ≡ pick (eqb (g .value) 0) (plus v (readBits s (g .next) b)) (onward (g .next))
-    behind = opened ∙ left _ _ _ (lt-leb n (v + 3 * 2 ^ b) (omega (arith, k .power .ensures .0))) ∙ through _ _ e
+    behind = opened ∙ left _ _ _ (lt-leb n (v + 3 * 2 ^ b) (omega (arith, twos))) ∙ through _ _ e
 
     -- the number is in this step
     here : g .value ≡ 0 → (r : Number) → r ≡ getBits s (g .next) (pos b)
@@ -83,12 +86,12 @@ module _ (k : tie.After-power Inv-loop μ-loop) where
     on z =
         let f : 33 - (loop .loop .i + 1) ≡ 32 - loop .loop .i = omega arith in
         ap (λ (x : ℕ). subexpFrom x s (g .next) n (loop .before .before .args .k) (loop .loop .i + 1) (v + k .power .result)) f
-        ∙ ap (λ (x : ℕ). subexpFrom (32 - loop .loop .i) s (g .next) n (loop .before .before .args .k) (loop .loop .i + 1) (v + x)) (k .power .ensures .0)
+        ∙ ap (λ (x : ℕ). subexpFrom (32 - loop .loop .i) s (g .next) n (loop .before .before .args .k) (loop .loop .i + 1) (v + x)) twos
         ∙ sym (behind ∙ left _ _ _ (ne-eqb (g .value) 0 z))
 
     -- the next step is within the width
     more : b < 30
-    more = pow-lt-only b 30 (omega (arith, k .power .ensures .0, loop .before .before .pre .2))
+    more = pow-lt-only b 30 (omega (arith, twos, loop .before .before .pre .2))
 
 loop-holds : tie.Need-loop-holds Inv-loop μ-loop
 loop-holds c = (search needs, search needs, search needs, refl)

@@ -18,6 +18,7 @@ signed n r = record { value = signedOf n (r .value); next = r .next }
 
 -- a number other than 0 came from a width that is right
 known : (c : tie.Else1) → T (nonNeg (c .before .before .before .before .before .args .n))
+    × (1 ≤ natAbs (c .before .before .before .before .before .args .n))
     × (natAbs (c .before .before .before .before .before .args .n) ≤ 32)
     × (c .before .before .before .get-bits .result .value < 2 ^ natAbs (c .before .before .before .before .before .args .n))
 known c =
@@ -43,7 +44,7 @@ cast-sign c =
 sign-requires : tie.Need-sign-requires
 sign-requires c κs =
     let a = c .before .before .before .before .before in
-    rw (toZ-ofZ (a .fits .n)) (known c .1, known c .2)
+    rw (toZ-ofZ (a .fits .n)) (known c .1, known c .2, known c .3)
 
 returns-2 : tie.Need-returns-2
 unfolding getSbits

@@ -1,8 +1,9 @@
 -- `tile_info::limits::max_tile_area_sb` meets its contract. Assumes nothing.
 use mathlib.Core.Path.{_≡_, refl, _∙_}
-use Prim.Native.Nat.{_+_, _%_, _≤_}
+use Prim.Native.Nat.{_≤_}
 use native.Mathlib.Omega.{arith}
 use lib.Pow.{pow-mono}
+use Rattle.getbits.proofs.Callers.{power-below}
 use Rattle.tile_layout.specs.Limits.{areaLimit}
 use Rattle.tile_info.proofs.Coded.{frame-code}
 use borrow.Author.Needs.{needs}
@@ -25,10 +26,9 @@ returns c =
     let y = x .before .before .before in
     let z = y .before .before in
     let s = z .before .before in
-    let e : (z .one-if .result + y .one-if2 .result + x .one-if3 .result) % 32 ≡ z .one-if .result + y .one-if2 .result + x .one-if3 .result =
-    omega (arith, x .one-if3 .ensures .1, y .one-if2 .ensures .1, z .one-if .ensures .1) in
+    let e = power-below (omega (arith, x .one-if3 .ensures .1, y .one-if2 .ensures .1, z .one-if .ensures .1)) (c .before .power .ensures .0) in
     c .area-limit .ensures
-    ∙ rw (c .before .power .ensures .0, e, z .one-if .ensures .0, y .one-if2 .ensures .0, x .one-if3 .ensures .0, frame-code (s .pre .0) (s .pre .1)) refl
+    ∙ rw (e, z .one-if .ensures .0, y .one-if2 .ensures .0, x .one-if3 .ensures .0, frame-code (s .pre .0) (s .pre .1)) refl
 
 pub max-tile-area-sb-spec : {M : Type 1} → statement M
 max-tile-area-sb-spec =
@@ -38,6 +38,7 @@ max-tile-area-sb-spec =
     (λ c κs. search needs)
     (λ c. search needs)
     (λ c κs. search needs)
+    (λ c. search needs)
     (λ c. search needs)
     (λ c κs. search needs)
     mul-area-limit

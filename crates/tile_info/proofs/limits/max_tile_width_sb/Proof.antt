@@ -1,8 +1,9 @@
 -- `tile_info::limits::max_tile_width_sb` meets its contract. Assumes nothing.
 use mathlib.Core.Path.{_≡_, refl, _∙_}
-use Prim.Native.Nat.{_+_, _%_, _≤_}
+use Prim.Native.Nat.{_≤_}
 use native.Mathlib.Omega.{arith}
 use lib.Pow.{pow-mono}
+use Rattle.getbits.proofs.Callers.{power-below}
 use Rattle.tile_layout.specs.Limits.{widthLimit}
 use Rattle.tile_info.proofs.Coded.{frame-code}
 use borrow.Author.Needs.{needs}
@@ -23,8 +24,8 @@ returns c =
     let x = c .before .before in
     let y = x .before .before .before in
     let s = y .before .before in
-    let e : (y .one-if .result + x .one-if2 .result) % 32 ≡ y .one-if .result + x .one-if2 .result = omega (arith, x .one-if2 .ensures .1, y .one-if .ensures .1) in
-    c .width-limit .ensures ∙ rw (c .before .power .ensures .0, e, y .one-if .ensures .0, x .one-if2 .ensures .0, frame-code (s .pre .0) (s .pre .1)) refl
+    let e = power-below (omega (arith, x .one-if2 .ensures .1, y .one-if .ensures .1)) (c .before .power .ensures .0) in
+    c .width-limit .ensures ∙ rw (e, y .one-if .ensures .0, x .one-if2 .ensures .0, frame-code (s .pre .0) (s .pre .1)) refl
 
 pub max-tile-width-sb-spec : {M : Type 1} → statement M
 max-tile-width-sb-spec =
@@ -32,6 +33,7 @@ max-tile-width-sb-spec =
     (tie.spec
     (λ c κs. search needs)
     (λ c κs. search needs)
+    (λ c. search needs)
     (λ c. search needs)
     (λ c κs. search needs)
     mul-width-limit
