@@ -1,4 +1,4 @@
--- Laws of the bits of a byte string and of the words that hold them. Assumes nothing.
+-- Laws of the bits of a byte string and of the bytes that hold them. Assumes nothing.
 use mathlib.Core.Path.{_≡_, sym, ap, _∙_}
 use mathlib.Core.List.{List}
 use Prim.Native.Nat.{ℕ, zero, suc, _+_, _-_, _*_, _/_, _%_, _^_, _≤_, _<_}
@@ -8,7 +8,7 @@ use lib.Dec.{lit<, lit≤}
 use lib.ListN.{getD}
 use lib.Pow.{shr-shr, shl-exact, pow-pos, pow-mono, high, low}
 use Rattle.getbits.specs.Bits.{bitAt, bitsAt}
-use Rattle.getbits.specs.Words.{half, word}
+use Rattle.getbits.specs.Words.{fourBytes, eightBytes}
 
 -- n bits write a number below 2 ^ n
 pub bits-lt : (s : List ℕ) (i n : ℕ) → bitsAt s i n < 2 ^ n
@@ -51,17 +51,17 @@ byte-top s j (suc n) l h =
 pub byte-bits : (s : List ℕ) (j : ℕ) → getD s j 0 < 256 → bitsAt s (8 * j) 8 ≡ getD s j 0
 byte-bits s j h = byte-top s j 8 (lit≤ tt) h ∙ div-one (getD s j 0)
 
-half-bits : (s : List ℕ) (i : ℕ) → ((k : ℕ) → getD s k 0 < 256) → bitsAt s (8 * i) 32 ≡ half s i
-half-bits s i h =
+four-bytes : (s : List ℕ) (i : ℕ) → ((k : ℕ) → getD s k 0 < 256) → bitsAt s (8 * i) 32 ≡ fourBytes s i
+four-bytes s i h =
     let next : (k : ℕ) → 8 * i + 8 * k ≡ 8 * (i + k) = λ k. omega arith in
     let b : (k : ℕ) → bitsAt s (8 * i) (8 * k + 8) ≡ bitsAt s (8 * i) (8 * k) * 256 + getD s (i + k) 0 =
     λ k. bits-add s (8 * i) (8 * k) 8 ∙ ap (λ (x : ℕ). bitsAt s (8 * i) (8 * k) * 256 + x) (ap (λ (x : ℕ). bitsAt s x 8) (next k) ∙ byte-bits s (i + k) (h (i + k))) in
     omega (arith, byte-bits s i (h i), b 1, b 2, b 3)
 
-word-bits : (s : List ℕ) (i : ℕ) → ((k : ℕ) → getD s k 0 < 256) → bitsAt s (8 * i) 64 ≡ word s i
-word-bits s i h =
+eight-bytes : (s : List ℕ) (i : ℕ) → ((k : ℕ) → getD s k 0 < 256) → bitsAt s (8 * i) 64 ≡ eightBytes s i
+eight-bytes s i h =
     let e : 8 * i + 32 ≡ 8 * (i + 4) = omega arith in
-    bits-add s (8 * i) 32 32 ∙ rw (e, half-bits s i h, half-bits s (i + 4) h)
+    bits-add s (8 * i) 32 32 ∙ rw (e, four-bytes s i h, four-bytes s (i + 4) h)
 
 -- the n bits behind the first u of t bits, with r behind them
 pub window : (s : List ℕ) (i u n r t : ℕ) → u + n + r ≡ t → bitsAt s (8 * i) t / 2 ^ r % 2 ^ n ≡ bitsAt s (8 * i + u) n
@@ -69,9 +69,9 @@ window s i u n r t e =
     let a : bitsAt s (8 * i) t ≡ bitsAt s (8 * i) (u + n) * 2 ^ r + bitsAt s (8 * i + (u + n)) r = ap (bitsAt s (8 * i)) (sym e) ∙ bits-add s (8 * i) (u + n) r in
     rw (a, high (bitsAt s (8 * i) (u + n)) r (bits-lt s (8 * i + (u + n)) r), bits-add s (8 * i) u n, low (bitsAt s (8 * i) u) n (bits-lt s (8 * i + u) n))
 
--- a field of a word is the bits that stand there
-pub word-field : (s : List ℕ) (i u n : ℕ) → ((k : ℕ) → getD s k 0 < 256) → u < 8 → n ≤ 32 → word s i / 2 ^ (64 - (u + n)) % 2 ^ n ≡ bitsAt s (8 * i + u) n
-word-field s i u n b h k = ap (λ (x : ℕ). x / 2 ^ (64 - (u + n)) % 2 ^ n) (sym (word-bits s i b)) ∙ window s i u n (64 - (u + n)) 64 (omega arith)
+-- a field of eight bytes is the bits that stand there
+pub bytes-field : (s : List ℕ) (i u n : ℕ) → ((k : ℕ) → getD s k 0 < 256) → u < 8 → n ≤ 32 → eightBytes s i / 2 ^ (64 - (u + n)) % 2 ^ n ≡ bitsAt s (8 * i + u) n
+bytes-field s i u n b h k = ap (λ (x : ℕ). x / 2 ^ (64 - (u + n)) % 2 ^ n) (sym (eight-bytes s i b)) ∙ window s i u n (64 - (u + n)) 64 (omega arith)
 
 -- 1 shifted by less than the width
 pub shl-one : (n w : ℕ) → n < w → 1 * 2 ^ n % 2 ^ w ≡ 2 ^ n

@@ -3,9 +3,9 @@ ghost use mathlib.Core.Path.{_≡_};
 ghost use Prim.Native.Nat.{_+_, _*_, _-_, _/_, _%_, _^_, _<_, _≤_};
 ghost use lib.ListN.{length, getD};
 ghost use Rattle.getbits.specs.Bits.{bitsAt};
-ghost use Rattle.getbits.specs.Words.{half};
+ghost use Rattle.getbits.specs.Words.{fourBytes};
 
-fn wide(x: u8) -> u64
+fn u8_to_u64(x: u8) -> u64
     ensures { λ r. ⌜ (r ≡ x) × (r < 256) ⌝ }
 {
     x as u64
@@ -15,21 +15,24 @@ fn wide(x: u8) -> u64
 fn at(s: &[u8], i: usize) -> u64
     ensures { λ r. ⌜ (r ≡ getD (now (s .entry)) i 0) × (r < 256) ⌝ }
 {
-    if i < s.len() { wide(s[i]) } else { 0 }
+    if i < s.len() { u8_to_u64(s[i]) } else { 0 }
 }
 
 // Four bytes that are all there.
-fn half_within(s: &[u8], i: usize) -> u64
+fn four_bytes_within(s: &[u8], i: usize) -> u64
     requires { ⌜ i + 4 ≤ length (now s) ⌝ }
-    ensures { λ r. ⌜ (r ≡ half (now (s .entry)) i) × (r < 2 ^ 32) ⌝ }
+    ensures { λ r. ⌜ (r ≡ fourBytes (now (s .entry)) i) × (r < 2 ^ 32) ⌝ }
 {
-    wide(s[i]) * 0x100_0000 + wide(s[i + 1]) * 0x1_0000 + wide(s[i + 2]) * 0x100 + wide(s[i + 3])
+    u8_to_u64(s[i]) * 0x100_0000
+        + u8_to_u64(s[i + 1]) * 0x1_0000
+        + u8_to_u64(s[i + 2]) * 0x100
+        + u8_to_u64(s[i + 3])
 }
 
 // Four bytes, with 0 for those past the end.
-fn half_near_end(s: &[u8], i: usize) -> u64
+fn four_bytes_near_end(s: &[u8], i: usize) -> u64
     requires { ⌜ i ≤ length (now s) + 4 ⌝ }
-    ensures { λ r. ⌜ (r ≡ half (now (s .entry)) i) × (r < 2 ^ 32) ⌝ }
+    ensures { λ r. ⌜ (r ≡ fourBytes (now (s .entry)) i) × (r < 2 ^ 32) ⌝ }
 {
     at(s, i) * 0x100_0000 + at(s, i + 1) * 0x1_0000 + at(s, i + 2) * 0x100 + at(s, i + 3)
 }
@@ -48,7 +51,7 @@ pub fn within(s: &[u8], byte: usize, used: u32, n: u32) -> u32
     ensures { λ r. ⌜ r ≡ bitsAt (now (s .entry)) (8 * byte + used) n ⌝ }
 {
     field(
-        half_within(s, byte) * 0x1_0000_0000 + half_within(s, byte + 4),
+        four_bytes_within(s, byte) * 0x1_0000_0000 + four_bytes_within(s, byte + 4),
         used,
         n,
     )
@@ -63,7 +66,7 @@ pub fn peek(s: &[u8], byte: usize, used: u32, n: u32) -> u32
         within(s, byte, used, n)
     } else {
         field(
-            half_near_end(s, byte) * 0x1_0000_0000 + half_near_end(s, byte + 4),
+            four_bytes_near_end(s, byte) * 0x1_0000_0000 + four_bytes_near_end(s, byte + 4),
             used,
             n,
         )

@@ -14,7 +14,7 @@ pub fn byte_at(s: &[u8], i: usize) -> u8
     if i < s.len() { s[i] } else { 0 }
 }
 
-fn wide(x: u8) -> usize
+fn u8_to_usize(x: u8) -> usize
     ensures { λ r. ⌜ (r ≡ x) × (r < 256) ⌝ }
 {
     x as usize
@@ -26,7 +26,7 @@ pub fn two_at(s: &[u8], i: usize) -> usize
     if i >= s.len() {
         return 0;
     }
-    wide(byte_at(s, i)) + 256 * wide(byte_at(s, i + 1))
+    u8_to_usize(byte_at(s, i)) + 256 * u8_to_usize(byte_at(s, i + 1))
 }
 
 pub fn is_input(s: &[u8]) -> bool

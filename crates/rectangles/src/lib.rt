@@ -20,7 +20,7 @@ struct Rectangle {
     height: u32,
 }
 
-fn wide(x: u16) -> u32
+fn u16_to_u32(x: u16) -> u32
     ensures { λ r. ⌜ (r ≡ x) × (r < 65536) ⌝ }
 {
     x as u32
@@ -70,7 +70,7 @@ fn begin(starts: &[u16], side: u32, i: usize) -> u32
     requires { ⌜ (getD (now starts) i 0 ≤ 1024) × (side ≤ 256) ⌝ }
     ensures { λ r. ⌜ r ≡ getD (now (starts .entry)) i 0 * side ⌝ }
 {
-    wide(start_at(starts, i)) * side
+    u16_to_u32(start_at(starts, i)) * side
 }
 
 // How far it reaches.
@@ -78,7 +78,7 @@ fn reach(starts: &[u16], side: u32, i: usize) -> u32
     requires { ⌜ (getD (now starts) i 0 ≤ getD (now starts) (i + 1) 0) × (getD (now starts) (i + 1) 0 ≤ 1024) × (side ≤ 256) × (i < 65536) ⌝ }
     ensures { λ r. ⌜ r ≡ (getD (now (starts .entry)) (i + 1) 0 - getD (now (starts .entry)) i 0) * side ⌝ }
 {
-    (wide(start_at(starts, i + 1)) - wide(start_at(starts, i))) * side
+    (u16_to_u32(start_at(starts, i + 1)) - u16_to_u32(start_at(starts, i))) * side
 }
 
 // The rectangle of tile k, counted row by row.

@@ -64,7 +64,7 @@ pub fn multiplier_of(frame_code: u8, seq_code: u8) -> u32
     }
 }
 
-fn wide(x: u32) -> u64
+fn u32_to_u64(x: u32) -> u64
     ensures { λ r. ⌜ r ≡ x ⌝ }
 {
     x as u64
@@ -107,8 +107,8 @@ fn sb_size(code: u8) -> u32
 fn sb_count(n: u32, code: u8) -> u32
     ensures { λ r. ⌜ r ≡ superblocks n (min code 2) ⌝ }
 {
-    let sbsz = wide(sb_size(code));
-    ((wide(n) + (sbsz - 1)) / sbsz) as u32
+    let sbsz = u32_to_u64(sb_size(code));
+    ((u32_to_u64(n) + (sbsz - 1)) / sbsz) as u32
 }
 
 // The place of an entry of a layout: one above 64 counts as 64.
@@ -181,7 +181,7 @@ impl Pair {
     pub fn full_count(self, n: u32) -> SeqSb
         ensures { λ r. ⌜ r .0 ≡ max 1 ((n + 7) / sizeOf (self .«seq_code»)) ⌝ }
     {
-        let full = (wide(n) + 7) / wide(sb_size(self.seq_code));
+        let full = (u32_to_u64(n) + 7) / u32_to_u64(sb_size(self.seq_code));
         SeqSb(umax(1, full as u32))
     }
 
@@ -277,7 +277,7 @@ impl FrameSb {
     pub fn times(self, rows: FrameSb) -> AreaSb
         ensures { λ r. ⌜ r .0 ≡ min (self .0 * rows .0) 4294967295 ⌝ }
     {
-        AreaSb(cut(wide(self.0) * wide(rows.0)))
+        AreaSb(cut(u32_to_u64(self.0) * u32_to_u64(rows.0)))
     }
 
     // The least logarithm by which tiles of at most this size reach `all`.
@@ -298,8 +298,8 @@ impl FrameSb {
     pub fn fits_uniform(self, log2: u8) -> bool
         ensures { λ r. ⌜ r ≡ fitsUniform (log2 % 32) (self .0) ⌝ }
     {
-        let tiles = wide(power(log2 as u32));
-        let n = wide(self.0);
+        let tiles = u32_to_u64(power(log2 as u32));
+        let n = u32_to_u64(self.0);
         let tile = (n + (tiles - 1)) / tiles;
         tile * (tiles - 1) < n
     }

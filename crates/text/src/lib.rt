@@ -104,7 +104,7 @@ fn least(a: usize, b: usize) -> usize
     if a < b { a } else { b }
 }
 
-fn wide(x: u16) -> u64
+fn u16_to_u64(x: u16) -> u64
     ensures { λ r. ⌜ r ≡ x ⌝ }
 {
     x as u64
@@ -128,7 +128,7 @@ fn put_items(out: &mut [u8], at: usize, xs: &[u16], n: usize) -> usize
     let mut next = at;
     let mut i = 0;
     while i < end {
-        next = put_item(out, next, wide(xs[i]), i == 0);
+        next = put_item(out, next, u16_to_u64(xs[i]), i == 0);
         i += 1;
     }
     next

@@ -103,23 +103,23 @@ fn delta_at(xs: &[u32], i: usize) -> i16 {
     delta_below_zero(0xffff - n)
 }
 
-fn wide(x: i32) -> i64 {
+fn i32_to_i64(x: i32) -> i64 {
     x as i64
 }
 
-fn wide_delta(x: i16) -> i64 {
+fn i16_to_i64(x: i16) -> i64 {
     x as i64
 }
 
-fn wide_number(x: u32) -> i64 {
+fn u32_to_i64(x: u32) -> i64 {
     x as i64
 }
 
-fn wide_word(x: u16) -> i64 {
+fn u16_to_i64(x: u16) -> i64 {
     x as i64
 }
 
-fn wide_byte(x: u8) -> i64 {
+fn u8_to_i64(x: u8) -> i64 {
     x as i64
 }
 
@@ -198,7 +198,7 @@ fn put(out: &mut [i64], i: usize, n: i64)
 }
 
 fn byte_in(xs: &[u8], k: usize) -> i64 {
-    if k < xs.len() { wide_byte(xs[k]) } else { 0 }
+    if k < xs.len() { u8_to_i64(xs[k]) } else { 0 }
 }
 
 // The first n bytes go to the places from i on.
@@ -214,7 +214,7 @@ fn put_bytes(out: &mut [i64], i: usize, xs: &[u8], n: usize)
 }
 
 fn word_in(xs: &[u16], k: usize) -> i64 {
-    if k < xs.len() { wide_word(xs[k]) } else { 0 }
+    if k < xs.len() { u16_to_i64(xs[k]) } else { 0 }
 }
 
 // The first n words go to the places from i on.
@@ -230,7 +230,7 @@ fn put_words(out: &mut [i64], i: usize, xs: &[u16], n: usize)
 }
 
 fn delta_in(xs: &[i16], k: usize) -> i64 {
-    if k < xs.len() { wide_delta(xs[k]) } else { 0 }
+    if k < xs.len() { i16_to_i64(xs[k]) } else { 0 }
 }
 
 // The first n deltas go to the places from i on.
@@ -246,7 +246,7 @@ fn put_deltas(out: &mut [i64], i: usize, xs: &[i16], n: usize)
 }
 
 fn number_in(xs: &[u32], k: usize) -> i64 {
-    if k < xs.len() { wide_number(xs[k]) } else { 0 }
+    if k < xs.len() { u32_to_i64(xs[k]) } else { 0 }
 }
 
 // The first n numbers go to the places from i on.
@@ -461,7 +461,7 @@ fn replay_frame(
         &seq_cols,
         &seq_rows,
     );
-    put(&mut *out, 3, wide_byte(sb128));
+    put(&mut *out, 3, u8_to_i64(sb128));
     put_layout(&mut *out, 4, &info, &cols, &rows);
     answer
 }
@@ -559,7 +559,7 @@ fn replay_reading(kind: u32, s: &[u8], position: &mut usize, error: &mut u8, arg
     match kind {
         0 => mubanlig_get_bit(s, &mut *p, &mut *e) as i64,
         1 => mubanlig_get_bits(s, &mut *p, &mut *e, signed_at(args, 0)) as i64,
-        2 => wide(mubanlig_get_sbits(s, &mut *p, &mut *e, signed_at(args, 0))),
+        2 => i32_to_i64(mubanlig_get_sbits(s, &mut *p, &mut *e, signed_at(args, 0))),
         3 => mubanlig_get_vlc(s, &mut *p, &mut *e) as i64,
         4 => mubanlig_get_uniform(s, &mut *p, &mut *e, at(args, 0)) as i64,
         5 => mubanlig_get_ref_uniform(s, &mut *p, &mut *e, at(args, 0), at(args, 1)) as i64,
@@ -573,7 +573,13 @@ fn replay_reading(kind: u32, s: &[u8], position: &mut usize, error: &mut u8, arg
             at(args, 1),
             signed_at(args, 2),
         ) as i64,
-        9 => wide(mubanlig_get_bits_subexp(s, &mut *p, &mut *e, signed_at(args, 0), at(args, 1))),
+        9 => i32_to_i64(mubanlig_get_bits_subexp(
+            s,
+            &mut *p,
+            &mut *e,
+            signed_at(args, 0),
+            at(args, 1),
+        )),
         _ => {
             mubanlig_bytealign(s, &mut *p);
             0
@@ -642,13 +648,13 @@ fn replay_kind(kind: u32, s: &[u8], place: &[u32], args: &[u32], out: &mut [i64]
     let value = replay_value(kind, s, &mut position, &mut error, args, &mut *out);
     put(&mut *out, 0, value);
     put(&mut *out, 1, count(position));
-    put(&mut *out, 2, wide_byte(error));
+    put(&mut *out, 2, u8_to_i64(error));
     outcome_count(kind)
 }
 
 // No number can be both one from 2^31 up and one below 0, so one of the two is meant.
 fn same(ours: i64, stored: u32) -> bool {
-    (ours == stored as i64) | (ours == wide(signed(stored)))
+    (ours == stored as i64) | (ours == i32_to_i64(signed(stored)))
 }
 
 // Are the first n numbers the stored ones?

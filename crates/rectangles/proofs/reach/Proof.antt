@@ -10,7 +10,7 @@ use Rattle.rectangles.proofs.reach.Tie as tie
 mul-result : tie.Need-mul-result
 mul-result c =
     let a = c .before .before .before .before .before in
-    record { fits = samples-lt (c .before .before .wide .result - c .wide2 .result) (a .args .side) (omega arith) (a .pre .2) }
+    record { fits = samples-lt (c .before .before .u16-to-u32 .result - c .u16-to-u322 .result) (a .args .side) (omega arith) (a .pre .2) }
 
 returns : tie.Need-returns
 returns c = ap (λ (x : ℕ). x * c .before .before .before .before .before .args .side) (omega arith)

@@ -25,7 +25,7 @@ loop-again c =
     let b = c .before .before in
     let l = b .before .before .before .before .before in
     let xs = l .before .before .before .before .args .xs .now in
-    (search needs, rw (row-more xs (l .loop .i) (omega (arith, l .before .least .ensures)), ← b .before .wide .ensures) (within (omega arith) (also (l .loop .inv .1) (b .put-item .ensures))))
+    (search needs, rw (row-more xs (l .loop .i) (omega (arith, l .before .least .ensures)), ← b .before .u16-to-u64 .ensures) (within (omega arith) (also (l .loop .inv .1) (b .put-item .ensures))))
 
 returns : tie.Need-returns Inv-loop μ-loop
 returns c =

@@ -8,11 +8,11 @@ use Rattle.superblocks.proofs.FrameSb.fits_uniform.Statement.{statement
 use Rattle.superblocks.proofs.FrameSb.fits_uniform.Tie as tie
 
 mul-result : tie.Need-mul-result
-mul-result c = record { fits = lt-of-le-of-lt (part-le (c .wide2 .result + (c .before .wide .result - 1)) (c .before .wide .result)) (search needs) }
+mul-result c = record { fits = lt-of-le-of-lt (part-le (c .u32-to-u642 .result + (c .before .u32-to-u64 .result - 1)) (c .before .u32-to-u64 .result)) (search needs) }
 
 returns : tie.Need-returns
 unfolding fitsUniform
-returns c = rw (c .wide2 .ensures, c .before .wide .ensures, c .before .before .power .ensures .0)
+returns c = rw (c .u32-to-u642 .ensures, c .before .u32-to-u64 .ensures, c .before .before .power .ensures .0)
 
 pub fits-uniform-spec : {M : Type 1} → statement M
 fits-uniform-spec =

@@ -10,7 +10,7 @@ mul-cut : tie.Need-mul-cut
 mul-cut c = record { fits = product-fits (search needs) (search needs) }
 
 returns : tie.Need-returns
-returns c = c .cut .ensures ∙ ap₂ (λ (x y : ℕ). min (x * y) 4294967295) (c .before .before .wide .ensures) (c .before .wide2 .ensures)
+returns c = c .cut .ensures ∙ ap₂ (λ (x y : ℕ). min (x * y) 4294967295) (c .before .before .u32-to-u64 .ensures) (c .before .u32-to-u642 .ensures)
 
 pub times-spec : {M : Type 1} → statement M
 times-spec =
