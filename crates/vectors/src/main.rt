@@ -33,7 +33,7 @@ struct Row {
 }
 
 // A number of a row, how many zeros follow it, and the place behind it.
-struct Number {
+struct RowNumber {
     value: u32,
     zeros: u32,
     next: Place,
@@ -56,20 +56,20 @@ struct Turn {
 }
 
 // The number at i, and 0 past the end.
-fn at(xs: &[u32], i: usize) -> u32 {
+fn u32_at(xs: &[u32], i: usize) -> u32 {
     if i < xs.len() { xs[i] } else { 0 }
 }
 
-fn byte_at(xs: &[u32], i: usize) -> u8 {
-    (at(xs, i) % 256) as u8
+fn u8_at(xs: &[u32], i: usize) -> u8 {
+    (u32_at(xs, i) % 256) as u8
 }
 
-fn word_at(xs: &[u32], i: usize) -> u16 {
-    (at(xs, i) % 65536) as u16
+fn u16_at(xs: &[u32], i: usize) -> u16 {
+    (u32_at(xs, i) % 65536) as u16
 }
 
 // -1 - x
-fn below_zero(x: u32) -> i32
+fn i32_below_zero(x: u32) -> i32
     requires { ⌜ x < 2 ^ 31 ⌝ }
 {
     -1 - x as i32
@@ -80,27 +80,27 @@ fn signed(n: u32) -> i32 {
     if n < 0x8000_0000 {
         return n as i32;
     }
-    below_zero(0xffff_ffff - n)
+    i32_below_zero(0xffff_ffff - n)
 }
 
-fn signed_at(xs: &[u32], i: usize) -> i32 {
-    signed(at(xs, i))
+fn i32_at(xs: &[u32], i: usize) -> i32 {
+    signed(u32_at(xs, i))
 }
 
 // -1 - x
-fn delta_below_zero(x: u32) -> i16
+fn i16_below_zero(x: u32) -> i16
     requires { ⌜ x < 2 ^ 15 ⌝ }
 {
     -1 - x as i16
 }
 
 // A number of 16 bits with its sign.
-fn delta_at(xs: &[u32], i: usize) -> i16 {
-    let n = at(xs, i) % 65536;
+fn i16_at(xs: &[u32], i: usize) -> i16 {
+    let n = u32_at(xs, i) % 65536;
     if n < 0x8000 {
         return n as i16;
     }
-    delta_below_zero(0xffff - n)
+    i16_below_zero(0xffff - n)
 }
 
 fn i32_to_i64(x: i32) -> i64 {
@@ -136,7 +136,7 @@ fn count(n: usize) -> i64 {
 fn held_at(xs: &[u32], i: usize, most: usize) -> usize
     ensures { λ r. ⌜ r ≤ most ⌝ }
 {
-    let n = at(xs, i) as usize;
+    let n = u32_at(xs, i) as usize;
     if n < most { n } else { most }
 }
 
@@ -147,7 +147,7 @@ fn info_at(xs: &[u32], i: usize) -> [u8; 11]
     let mut info = [0u8; 11];
     let mut k: usize = 0;
     while k < 9 {
-        info[k] = byte_at(xs, i + k);
+        info[k] = u8_at(xs, i + k);
         k += 1;
     }
     info
@@ -160,18 +160,18 @@ fn starts_at(xs: &[u32], i: usize) -> [u16; 67]
     let mut starts = [0u16; 67];
     let mut k: usize = 0;
     while k < 65 {
-        starts[k] = word_at(xs, i + k);
+        starts[k] = u16_at(xs, i + k);
         k += 1;
     }
     starts
 }
 
 // The 16 deltas of the segments, in a buffer with room for two more.
-fn deltas_of(xs: &[u32]) -> [i16; 18] {
+fn first_deltas(xs: &[u32]) -> [i16; 18] {
     let mut delta_q = [0i16; 18];
     let mut k: usize = 0;
     while k < 16 {
-        delta_q[k] = delta_at(xs, k);
+        delta_q[k] = i16_at(xs, k);
         k += 1;
     }
     delta_q
@@ -189,7 +189,7 @@ fn numbers_from(first: u32) -> [u32; 450] {
     numbers
 }
 
-fn put(out: &mut [i64], i: usize, n: i64)
+fn store(out: &mut [i64], i: usize, n: i64)
     ensures { λ _. ⌜ length (now (out .exit)) ≡ length (now (out .entry)) ⌝ }
 {
     if i < out.len() {
@@ -202,13 +202,13 @@ fn byte_in(xs: &[u8], k: usize) -> i64 {
 }
 
 // The first n bytes go to the places from i on.
-fn put_bytes(out: &mut [i64], i: usize, xs: &[u8], n: usize)
+fn store_bytes(out: &mut [i64], i: usize, xs: &[u8], n: usize)
     requires { ⌜ (i ≤ 512) × (n ≤ 512) ⌝ }
     ensures { λ _. ⌜ length (now (out .exit)) ≡ length (now (out .entry)) ⌝ }
 {
     let mut k: usize = 0;
     while k < n {
-        put(&mut *out, i + k, byte_in(xs, k));
+        store(&mut *out, i + k, byte_in(xs, k));
         k += 1;
     }
 }
@@ -218,13 +218,13 @@ fn word_in(xs: &[u16], k: usize) -> i64 {
 }
 
 // The first n words go to the places from i on.
-fn put_words(out: &mut [i64], i: usize, xs: &[u16], n: usize)
+fn store_words(out: &mut [i64], i: usize, xs: &[u16], n: usize)
     requires { ⌜ (i ≤ 512) × (n ≤ 512) ⌝ }
     ensures { λ _. ⌜ length (now (out .exit)) ≡ length (now (out .entry)) ⌝ }
 {
     let mut k: usize = 0;
     while k < n {
-        put(&mut *out, i + k, word_in(xs, k));
+        store(&mut *out, i + k, word_in(xs, k));
         k += 1;
     }
 }
@@ -234,13 +234,13 @@ fn delta_in(xs: &[i16], k: usize) -> i64 {
 }
 
 // The first n deltas go to the places from i on.
-fn put_deltas(out: &mut [i64], i: usize, xs: &[i16], n: usize)
+fn store_deltas(out: &mut [i64], i: usize, xs: &[i16], n: usize)
     requires { ⌜ (i ≤ 512) × (n ≤ 512) ⌝ }
     ensures { λ _. ⌜ length (now (out .exit)) ≡ length (now (out .entry)) ⌝ }
 {
     let mut k: usize = 0;
     while k < n {
-        put(&mut *out, i + k, delta_in(xs, k));
+        store(&mut *out, i + k, delta_in(xs, k));
         k += 1;
     }
 }
@@ -250,13 +250,13 @@ fn number_in(xs: &[u32], k: usize) -> i64 {
 }
 
 // The first n numbers go to the places from i on.
-fn put_numbers(out: &mut [i64], i: usize, xs: &[u32], n: usize)
+fn store_numbers(out: &mut [i64], i: usize, xs: &[u32], n: usize)
     requires { ⌜ (i ≤ 512) × (n ≤ 512) ⌝ }
     ensures { λ _. ⌜ length (now (out .exit)) ≡ length (now (out .entry)) ⌝ }
 {
     let mut k: usize = 0;
     while k < n {
-        put(&mut *out, i + k, number_in(xs, k));
+        store(&mut *out, i + k, number_in(xs, k));
         k += 1;
     }
 }
@@ -266,24 +266,24 @@ fn field_in(xs: &[i64], k: usize) -> i64 {
 }
 
 // The first n fields go to the places from i on.
-fn put_fields(out: &mut [i64], i: usize, xs: &[i64], n: usize)
+fn store_fields(out: &mut [i64], i: usize, xs: &[i64], n: usize)
     requires { ⌜ (i ≤ 512) × (n ≤ 512) ⌝ }
     ensures { λ _. ⌜ length (now (out .exit)) ≡ length (now (out .entry)) ⌝ }
 {
     let mut k: usize = 0;
     while k < n {
-        put(&mut *out, i + k, field_in(xs, k));
+        store(&mut *out, i + k, field_in(xs, k));
         k += 1;
     }
 }
 
 // The 139 numbers of a layout go to the places from i on.
-fn put_layout(out: &mut [i64], i: usize, info: &[u8], cols: &[u16], rows: &[u16])
+fn store_layout(out: &mut [i64], i: usize, info: &[u8], cols: &[u16], rows: &[u16])
     requires { ⌜ i ≤ 200 ⌝ }
 {
-    put_bytes(&mut *out, i, info, 9);
-    put_words(&mut *out, i + 9, cols, 65);
-    put_words(&mut *out, i + 74, rows, 65);
+    store_bytes(&mut *out, i, info, 9);
+    store_words(&mut *out, i + 9, cols, 65);
+    store_words(&mut *out, i + 74, rows, 65);
 }
 
 // The layout's buffers are lent as long as the arguments say, and so below.
@@ -306,13 +306,13 @@ fn lend_layout(
         &mut info[..a],
         &mut cols[..b],
         &mut rows[..c],
-        signed_at(args, 139),
-        byte_at(args, 140),
-        byte_at(args, 141),
-        signed_at(args, 142),
-        signed_at(args, 143),
-        byte_at(args, 144),
-        byte_at(args, 145),
+        i32_at(args, 139),
+        u8_at(args, 140),
+        u8_at(args, 141),
+        i32_at(args, 142),
+        i32_at(args, 143),
+        u8_at(args, 144),
+        u8_at(args, 145),
     )
 }
 
@@ -335,7 +335,7 @@ fn replay_layout(
         &mut cols,
         &mut rows,
     );
-    put_layout(&mut *out, 3, &info, &cols, &rows);
+    store_layout(&mut *out, 3, &info, &cols, &rows);
     answer
 }
 
@@ -357,7 +357,7 @@ fn lend_header(
         s,
         &mut *position,
         &mut *error,
-        byte_at(args, 0),
+        u8_at(args, 0),
         &mut hdr[..a],
         &mut info[..b],
         &mut cols[..c],
@@ -387,8 +387,8 @@ fn replay_header(
         &mut cols,
         &mut rows,
     );
-    put_fields(&mut *out, 3, &hdr, 146);
-    put_layout(&mut *out, 149, &info, &cols, &rows);
+    store_fields(&mut *out, 3, &hdr, 146);
+    store_layout(&mut *out, 149, &info, &cols, &rows);
     answer
 }
 
@@ -415,19 +415,19 @@ fn lend_frame(
         s,
         &mut *position,
         &mut *error,
-        byte_at(args, 0),
-        signed_at(args, 1),
-        signed_at(args, 2),
+        u8_at(args, 0),
+        i32_at(args, 1),
+        i32_at(args, 2),
         &mut *sb128,
         &mut info[..a],
         &mut cols[..b],
         &mut rows[..c],
-        byte_at(args, 143),
-        signed_at(args, 144),
-        signed_at(args, 145),
-        byte_at(args, 146),
-        byte_at(args, 147),
-        byte_at(args, 148),
+        u8_at(args, 143),
+        i32_at(args, 144),
+        i32_at(args, 145),
+        u8_at(args, 146),
+        u8_at(args, 147),
+        u8_at(args, 148),
         &seq_info[..d],
         &seq_cols[..e],
         &seq_rows[..f],
@@ -441,7 +441,7 @@ fn replay_frame(
     args: &[u32],
     out: &mut [i64],
 ) -> u32 {
-    let mut sb128 = byte_at(args, 3);
+    let mut sb128 = u8_at(args, 3);
     let mut info = info_at(args, 4);
     let mut cols = starts_at(args, 13);
     let mut rows = starts_at(args, 78);
@@ -461,8 +461,8 @@ fn replay_frame(
         &seq_cols,
         &seq_rows,
     );
-    put(&mut *out, 3, u8_to_i64(sb128));
-    put_layout(&mut *out, 4, &info, &cols, &rows);
+    store(&mut *out, 3, u8_to_i64(sb128));
+    store_layout(&mut *out, 4, &info, &cols, &rows);
     answer
 }
 
@@ -482,7 +482,7 @@ fn lend_segments(
         &mut *error,
         &mut delta_q[..a],
         &mut masks[..b],
-        byte_at(args, 19),
+        u8_at(args, 19),
     )
 }
 
@@ -493,14 +493,8 @@ fn replay_segments(
     args: &[u32],
     out: &mut [i64],
 ) -> u32 {
-    let mut delta_q = deltas_of(args);
-    let mut masks = [
-        word_at(args, 16),
-        word_at(args, 17),
-        word_at(args, 18),
-        0,
-        0,
-    ];
+    let mut delta_q = first_deltas(args);
+    let mut masks = [u16_at(args, 16), u16_at(args, 17), u16_at(args, 18), 0, 0];
     let answer = lend_segments(
         s,
         &mut *position,
@@ -509,8 +503,8 @@ fn replay_segments(
         &mut delta_q,
         &mut masks,
     );
-    put_deltas(&mut *out, 3, &delta_q, 16);
-    put_words(&mut *out, 19, &masks, 3);
+    store_deltas(&mut *out, 3, &delta_q, 16);
+    store_words(&mut *out, 19, &masks, 3);
     answer
 }
 
@@ -530,7 +524,7 @@ fn lend_rectangles(
             &info[..a],
             &cols[..b],
             &rows[..c],
-            byte_at(args, 139),
+            u8_at(args, 139),
             &mut numbers[..len],
         );
     }
@@ -544,11 +538,11 @@ fn replay_rectangles(args: &[u32], out: &mut [i64]) -> usize
     let info = info_at(args, 0);
     let cols = starts_at(args, 9);
     let rows = starts_at(args, 74);
-    let mut numbers = numbers_from(at(args, 141));
+    let mut numbers = numbers_from(u32_at(args, 141));
     let len = held_at(args, 140, 450);
     let answer = lend_rectangles(args, &info, &cols, &rows, &mut numbers, len);
-    put(&mut *out, 0, answer as i64);
-    put_numbers(&mut *out, 1, &numbers, len);
+    store(&mut *out, 0, answer as i64);
+    store_numbers(&mut *out, 1, &numbers, len);
     1 + len
 }
 
@@ -558,27 +552,27 @@ fn replay_reading(kind: u32, s: &[u8], position: &mut usize, error: &mut u8, arg
     let e = &mut *error;
     match kind {
         0 => mubanlig_get_bit(s, &mut *p, &mut *e) as i64,
-        1 => mubanlig_get_bits(s, &mut *p, &mut *e, signed_at(args, 0)) as i64,
-        2 => i32_to_i64(mubanlig_get_sbits(s, &mut *p, &mut *e, signed_at(args, 0))),
+        1 => mubanlig_get_bits(s, &mut *p, &mut *e, i32_at(args, 0)) as i64,
+        2 => i32_to_i64(mubanlig_get_sbits(s, &mut *p, &mut *e, i32_at(args, 0))),
         3 => mubanlig_get_vlc(s, &mut *p, &mut *e) as i64,
-        4 => mubanlig_get_uniform(s, &mut *p, &mut *e, at(args, 0)) as i64,
-        5 => mubanlig_get_ref_uniform(s, &mut *p, &mut *e, at(args, 0), at(args, 1)) as i64,
+        4 => mubanlig_get_uniform(s, &mut *p, &mut *e, u32_at(args, 0)) as i64,
+        5 => mubanlig_get_ref_uniform(s, &mut *p, &mut *e, u32_at(args, 0), u32_at(args, 1)) as i64,
         6 => mubanlig_get_uleb128(s, &mut *p, &mut *e) as i64,
-        7 => mubanlig_get_golomb(s, &mut *p, &mut *e, at(args, 0)) as i64,
+        7 => mubanlig_get_golomb(s, &mut *p, &mut *e, u32_at(args, 0)) as i64,
         8 => mubanlig_get_bits_subexp_u(
             s,
             &mut *p,
             &mut *e,
-            at(args, 0),
-            at(args, 1),
-            signed_at(args, 2),
+            u32_at(args, 0),
+            u32_at(args, 1),
+            i32_at(args, 2),
         ) as i64,
         9 => i32_to_i64(mubanlig_get_bits_subexp(
             s,
             &mut *p,
             &mut *e,
-            signed_at(args, 0),
-            at(args, 1),
+            i32_at(args, 0),
+            u32_at(args, 1),
         )),
         _ => {
             mubanlig_bytealign(s, &mut *p);
@@ -635,20 +629,20 @@ fn outcome_count(kind: u32) -> usize
 fn replay_kind(kind: u32, s: &[u8], place: &[u32], args: &[u32], out: &mut [i64]) -> usize
     ensures { λ r. ⌜ r ≤ 512 ⌝ }
 {
-    let mut position = at(place, 0) as usize;
-    let mut error = byte_at(place, 1);
+    let mut position = u32_at(place, 0) as usize;
+    let mut error = u8_at(place, 1);
     if kind == 15 {
-        put(&mut *out, 0, count(mubanlig_byte_pos(s, position)));
-        put(&mut *out, 1, count(mubanlig_remaining_bytes(s, position)));
+        store(&mut *out, 0, count(mubanlig_byte_pos(s, position)));
+        store(&mut *out, 1, count(mubanlig_remaining_bytes(s, position)));
         return 2;
     }
     if kind == 16 {
         return replay_rectangles(args, &mut *out);
     }
     let value = replay_value(kind, s, &mut position, &mut error, args, &mut *out);
-    put(&mut *out, 0, value);
-    put(&mut *out, 1, count(position));
-    put(&mut *out, 2, u8_to_i64(error));
+    store(&mut *out, 0, value);
+    store(&mut *out, 1, count(position));
+    store(&mut *out, 2, u8_to_i64(error));
     outcome_count(kind)
 }
 
@@ -664,7 +658,7 @@ fn all_same(ours: &[i64], stored: &[u32], n: usize) -> bool
     let mut good = true;
     let mut i: usize = 0;
     while i < n {
-        good = good & same(field_in(ours, i), at(stored, i));
+        good = good & same(field_in(ours, i), u32_at(stored, i));
         i += 1;
     }
     good
@@ -686,9 +680,9 @@ fn at_most_512(n: u32) -> usize
 }
 
 // The next number of a row, behind which so many zeros are left; behind a 0 stands how many follow it.
-fn next_number(case: &[u8], p: Place, zeros: u32) -> Number {
+fn next_number(case: &[u8], p: Place, zeros: u32) -> RowNumber {
     if 0 < zeros {
-        return Number {
+        return RowNumber {
             value: 0,
             zeros: zeros - 1,
             next: p,
@@ -699,13 +693,13 @@ fn next_number(case: &[u8], p: Place, zeros: u32) -> Number {
     if r.value == 0 {
         let z = get_uleb128(case, behind);
         let next = z.next;
-        return Number {
+        return RowNumber {
             value: 0,
             zeros: z.value,
             next,
         };
     }
-    Number {
+    RowNumber {
         value: r.value,
         zeros: 0,
         next: behind,
@@ -881,9 +875,9 @@ fn print_line(t: Tally, kind: usize) -> bool {
     let agree = t.agree;
     print_name(kind);
     print(b" ");
-    io::print_decimal(STDOUT_FILENO, at(&replayed, kind) as u64);
+    io::print_decimal(STDOUT_FILENO, u32_at(&replayed, kind) as u64);
     print(b" ");
-    io::print_decimal(STDOUT_FILENO, at(&agree, kind) as u64);
+    io::print_decimal(STDOUT_FILENO, u32_at(&agree, kind) as u64);
     io::write_all(STDOUT_FILENO, b"\n")
 }
 

@@ -1,8 +1,8 @@
--- `vectors::deltas_of` meets its contract. Assumes nothing.
+-- `vectors::first_deltas` meets its contract. Assumes nothing.
 use Prim.Native.Nat.{_-_, _≤_}
 use borrow.Author.Needs.{needs}
-use Rattle.vectors.proofs.deltas_of.Statement.{statement}
-use Rattle.vectors.proofs.deltas_of.Tie as tie
+use Rattle.vectors.proofs.first_deltas.Statement.{statement}
+use Rattle.vectors.proofs.first_deltas.Tie as tie
 
 abbrev Inv-loop : tie.InvT-loop
 Inv-loop xs delta-q₀ k₀ delta-q k = k ≤ 16
@@ -10,8 +10,8 @@ Inv-loop xs delta-q₀ k₀ delta-q k = k ≤ 16
 abbrev μ-loop : tie.MeasureT-loop
 μ-loop xs delta-q₀ k₀ delta-q k = 16 - k
 
-pub deltas-of-spec : {M : Type 1} → statement M
-deltas-of-spec =
+pub first-deltas-spec : {M : Type 1} → statement M
+first-deltas-spec =
     tie.close
     (tie.spec
     Inv-loop

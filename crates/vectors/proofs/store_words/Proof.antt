@@ -1,10 +1,10 @@
--- `vectors::put_deltas` meets its contract. Assumes nothing.
+-- `vectors::store_words` meets its contract. Assumes nothing.
 use mathlib.Core.Path.{_≡_}
 use Prim.Native.Nat.{_-_, _≤_}
 use lib.ListN.{length}
 use borrow.Author.Needs.{needs}
-use Rattle.vectors.proofs.put_deltas.Statement.{statement}
-use Rattle.vectors.proofs.put_deltas.Tie as tie
+use Rattle.vectors.proofs.store_words.Statement.{statement}
+use Rattle.vectors.proofs.store_words.Tie as tie
 
 abbrev Inv-loop : tie.InvT-loop
 Inv-loop out₀ i xs n k₀ out k = (k ≤ n) × (length out ≡ length out₀)
@@ -12,8 +12,8 @@ Inv-loop out₀ i xs n k₀ out k = (k ≤ n) × (length out ≡ length out₀)
 abbrev μ-loop : tie.MeasureT-loop
 μ-loop out₀ i xs n k₀ out k = n - k
 
-pub put-deltas-spec : {M : Type 1} → statement M
-put-deltas-spec =
+pub store-words-spec : {M : Type 1} → statement M
+store-words-spec =
     tie.close
     (tie.spec
     Inv-loop

@@ -1,10 +1,10 @@
--- `vectors::put_words` meets its contract. Assumes nothing.
+-- `vectors::store_deltas` meets its contract. Assumes nothing.
 use mathlib.Core.Path.{_≡_}
 use Prim.Native.Nat.{_-_, _≤_}
 use lib.ListN.{length}
 use borrow.Author.Needs.{needs}
-use Rattle.vectors.proofs.put_words.Statement.{statement}
-use Rattle.vectors.proofs.put_words.Tie as tie
+use Rattle.vectors.proofs.store_deltas.Statement.{statement}
+use Rattle.vectors.proofs.store_deltas.Tie as tie
 
 abbrev Inv-loop : tie.InvT-loop
 Inv-loop out₀ i xs n k₀ out k = (k ≤ n) × (length out ≡ length out₀)
@@ -12,8 +12,8 @@ Inv-loop out₀ i xs n k₀ out k = (k ≤ n) × (length out ≡ length out₀)
 abbrev μ-loop : tie.MeasureT-loop
 μ-loop out₀ i xs n k₀ out k = n - k
 
-pub put-words-spec : {M : Type 1} → statement M
-put-words-spec =
+pub store-deltas-spec : {M : Type 1} → statement M
+store-deltas-spec =
     tie.close
     (tie.spec
     Inv-loop

@@ -1,10 +1,10 @@
--- `vectors::put_bytes` meets its contract. Assumes nothing.
+-- `vectors::store_numbers` meets its contract. Assumes nothing.
 use mathlib.Core.Path.{_≡_}
 use Prim.Native.Nat.{_-_, _≤_}
 use lib.ListN.{length}
 use borrow.Author.Needs.{needs}
-use Rattle.vectors.proofs.put_bytes.Statement.{statement}
-use Rattle.vectors.proofs.put_bytes.Tie as tie
+use Rattle.vectors.proofs.store_numbers.Statement.{statement}
+use Rattle.vectors.proofs.store_numbers.Tie as tie
 
 abbrev Inv-loop : tie.InvT-loop
 Inv-loop out₀ i xs n k₀ out k = (k ≤ n) × (length out ≡ length out₀)
@@ -12,8 +12,8 @@ Inv-loop out₀ i xs n k₀ out k = (k ≤ n) × (length out ≡ length out₀)
 abbrev μ-loop : tie.MeasureT-loop
 μ-loop out₀ i xs n k₀ out k = n - k
 
-pub put-bytes-spec : {M : Type 1} → statement M
-put-bytes-spec =
+pub store-numbers-spec : {M : Type 1} → statement M
+store-numbers-spec =
     tie.close
     (tie.spec
     Inv-loop
