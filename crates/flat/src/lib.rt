@@ -26,7 +26,7 @@ pub fn has_room(info: &[u8], cols: &[u16], rows: &[u16]) -> bool
     (9 <= info.len()) & ((65 <= cols.len()) & (65 <= rows.len()))
 }
 
-fn put_bytes(t: TileInfo, info: &mut [u8])
+fn put_layout_bytes(t: TileInfo, info: &mut [u8])
     requires { ⌜ 9 ≤ length (now info) ⌝ }
     ensures { λ _. ⌜ now (info .exit) ≡ layoutBytes t ++ drop 9 (now (info .entry)) ⌝ }
 {
@@ -49,7 +49,7 @@ pub fn put_tile_info(t: TileInfo, info: &mut [u8], cols: &mut [u16], rows: &mut 
     if has_room(&*info, &*cols, &*rows) {
         let col_start_sb = t.col_start_sb;
         let row_start_sb = t.row_start_sb;
-        put_bytes(t, &mut *info);
+        put_layout_bytes(t, &mut *info);
         copy_starts(&mut *cols, &col_start_sb);
         copy_starts(&mut *rows, &row_start_sb);
     }

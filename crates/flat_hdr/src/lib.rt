@@ -44,7 +44,7 @@ mod put;
 use put::put_bytes;
 use put::put_deltas;
 use put::put_one;
-use put::put_signed;
+use put::put_one_signed;
 
 fn layout_number(layout: PixelLayout) -> u8
     ensures { λ r. ⌜ r ≡ layoutNumber layout ⌝ }
@@ -106,8 +106,8 @@ fn put_size(out: &mut [i64], at: usize, s: FrameSize) -> usize
 {
     let bits: [u8; 2] = [s.width_n_bits, s.height_n_bits];
     let at = put_bytes(&mut *out, at, &bits);
-    let at = put_signed(&mut *out, at, s.max_width);
-    put_signed(&mut *out, at, s.max_height)
+    let at = put_one_signed(&mut *out, at, s.max_width);
+    put_one_signed(&mut *out, at, s.max_height)
 }
 
 fn put_crop(out: &mut [i64], at: usize, c: CropInfo) -> usize
@@ -346,7 +346,7 @@ fn put_quant(out: &mut [i64], at: usize, q: Quant) -> usize
         q.uvac_dq_enabled as u8,
     ];
     let at = put_bytes(&mut *out, at, &first);
-    let at = put_signed(&mut *out, at, q.base_ydc_dq as i32);
+    let at = put_one_signed(&mut *out, at, q.base_ydc_dq as i32);
     put_bytes(&mut *out, at, &rest)
 }
 

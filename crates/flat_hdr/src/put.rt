@@ -38,7 +38,7 @@ pub fn put_one(out: &mut [i64], at: usize, x: u32) -> usize
     at + 1
 }
 
-pub fn put_signed(out: &mut [i64], at: usize, x: i32) -> usize
+pub fn put_one_signed(out: &mut [i64], at: usize, x: i32) -> usize
     requires { ⌜ at + 1 ≤ length (now out) ⌝ }
     ensures { λ r. ⌜ PutAt (now (out .entry)) at (x ∷ []) 1 (now (out .exit)) r ⌝ }
 {

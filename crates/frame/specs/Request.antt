@@ -33,8 +33,8 @@ abbrev pub givenFrame : List ℕ → FrameHeader
 givenFrame s = frameOf (frameTypeOf (byteAt s (frameAt s))) (twoAt s (frameAt s + 1) + 1) (twoAt s (frameAt s + 3) + 1)
 
 -- 65,536 bytes at most, nothing missing before the tiling bits, and a type of 0 to 3
-abbrev pub isRequest : List ℕ → Bool
-isRequest s = (isInput s && leb (frameAt s + 5) (length s)) && isFrameType (byteAt s (frameAt s))
+abbrev pub isFrameRequest : List ℕ → Bool
+isFrameRequest s = (isInput s && leb (frameAt s + 5) (length s)) && isFrameType (byteAt s (frameAt s))
 
 -- a refusal before the frame: its record is a key frame of 1 by 1
 abbrev pub noFrame : Answer → FrameRead
@@ -43,7 +43,7 @@ noFrame z = record { answer = z; hdr = frameOf Key 1 1; next = placeAt 0 false }
 -- the header is read not strict, and the frame with its record; another input is 4
 unfoldable pub frameRequest : List ℕ → FrameRead
 frameRequest s =
-    pick (isRequest s)
+    pick (isFrameRequest s)
     (then (parseSeqHdr (take (twoAt s 0) (drop 2 s)) (placeAt 0 false) false) λ q.
     pick (isRefusal (q .answer)) (noFrame (q .answer))
     (parseTileInfoFrmhdr (drop (frameAt s + 5) s) (placeAt 0 false) (givenFrame s) (seqLayout (q .hdr))))

@@ -3,9 +3,10 @@ ghost use mathlib.Core.Path.{_≡_};
 ghost use Prim.Native.Nat.{_+_, _<_, _≤_};
 ghost use lib.ListN.{take};
 ghost use Rattle.io.specs.Counts.{Counts};
+ghost use Rattle.program.specs.Output.{startsText};
 ghost use Rattle.text.specs.Text.{Put};
-ghost use Rattle.frame.specs.Print.{headText, startsText, logsText, layoutText, readText, frameText};
-ghost use Rattle.frame.specs.Request.{frameAt, frameOf, givenFrame, isRequest, noFrame, frameRequest};
+ghost use Rattle.frame.specs.Print.{frameHeadText, logsText, frameLayoutText, frameReadText, frameText};
+ghost use Rattle.frame.specs.Request.{frameAt, frameOf, givenFrame, isFrameRequest, noFrame, frameRequest};
 use answers::Answer;
 use answers::is_refusal;
 use answers::number;
@@ -57,7 +58,7 @@ fn given_frame(s: &[u8], at_frame: usize) -> FrameHeader
 }
 
 fn is_request(s: &[u8]) -> bool
-    ensures { λ r. ⌜ r ≡ isRequest (now (s .entry)) ⌝ }
+    ensures { λ r. ⌜ r ≡ isFrameRequest (now (s .entry)) ⌝ }
 {
     let at_frame = two_at(s, 0) + 2;
     let kind = byte_at(s, at_frame);
@@ -102,7 +103,7 @@ fn request(s: &[u8]) -> FrameRead
 }
 
 fn put_head(out: &mut [u8], t: TileInfo, next: Place, sb128: u8) -> usize
-    ensures { λ r. ⌜ Put 110 (now (out .entry)) 0 (headText t next sb128) (now (out .exit)) r ⌝ }
+    ensures { λ r. ⌜ Put 110 (now (out .entry)) 0 (frameHeadText t next sb128) (now (out .exit)) r ⌝ }
 {
     let xs = [
         t.cols as u64,
@@ -116,7 +117,7 @@ fn put_head(out: &mut [u8], t: TileInfo, next: Place, sb128: u8) -> usize
 
 // All 65 starts.
 fn put_starts(out: &mut [u8], at: usize, starts: &[u16; 65]) -> usize
-    ensures { λ r. ⌜ Put 1366 (now (out .entry)) at (startsText (now (starts .entry))) (now (out .exit)) r ⌝ }
+    ensures { λ r. ⌜ Put 1366 (now (out .entry)) at (startsText (now (starts .entry)) 65) (now (out .exit)) r ⌝ }
 {
     put_row(out, at, starts, 65)
 }
@@ -136,7 +137,7 @@ fn put_logs(out: &mut [u8], at: usize, t: TileInfo) -> usize
 }
 
 fn put_layout(out: &mut [u8], t: TileInfo, next: Place, sb128: u8) -> usize
-    ensures { λ r. ⌜ Put 2969 (now (out .entry)) 0 (layoutText t next sb128) (now (out .exit)) r ⌝ }
+    ensures { λ r. ⌜ Put 2969 (now (out .entry)) 0 (frameLayoutText t next sb128) (now (out .exit)) r ⌝ }
 {
     let cols = t.col_start_sb;
     let rows = t.row_start_sb;
@@ -147,7 +148,7 @@ fn put_layout(out: &mut [u8], t: TileInfo, next: Place, sb128: u8) -> usize
 }
 
 fn put_read(out: &mut [u8], r: FrameRead) -> usize
-    ensures { λ n. ⌜ Put 2969 (now (out .entry)) 0 (readText r) (now (out .exit)) n ⌝ }
+    ensures { λ n. ⌜ Put 2969 (now (out .entry)) 0 (frameReadText r) (now (out .exit)) n ⌝ }
 {
     let answer = r.answer;
     if is_refusal(answer) {

@@ -19,7 +19,7 @@ use seq_fields::AdaptiveBoolean;
 use superblocks::FrameSb;
 use superblocks::Pair;
 use superblocks::SeqStarts;
-use superblocks::put;
+use superblocks::put_start;
 use tile_layout::TileArgs;
 use tile_layout::TileInfo;
 use tile_layout::not_below_0;
@@ -77,7 +77,7 @@ fn doubled_starts(starts: SeqStarts, pair: Pair, tiles: u8) -> [u16; 65]
     let mut at = starts.entries();
     let mut i: u8 = 0;
     while i < tiles {
-        put(&mut at, i, starts.start(i).in_frame(pair));
+        put_start(&mut at, i, starts.start(i).in_frame(pair));
         i += 1;
     }
     at
@@ -92,7 +92,7 @@ fn reused_starts(starts: SeqStarts, pair: Pair, tiles: u8, closing: FrameSb) -> 
         return starts.entries();
     }
     let mut at = doubled_starts(starts, pair, tiles);
-    put(&mut at, tiles, closing);
+    put_start(&mut at, tiles, closing);
     at
 }
 

@@ -100,7 +100,7 @@ fn rectangle_of(t: TileInfo, sb128: u8, k: usize) -> Rectangle
     }
 }
 
-fn put(out: &mut [u32], at: usize, r: Rectangle)
+fn put_rectangle(out: &mut [u32], at: usize, r: Rectangle)
     requires { ⌜ at + 4 ≤ length (now out) ⌝ }
     ensures { λ _. ⌜ now (out .exit) ≡ sets (now (out .entry)) at (r .left ∷ r .top ∷ r .width ∷ r .height ∷ []) ⌝ }
 {
@@ -118,7 +118,7 @@ fn write_tiles(t: TileInfo, sb128: u8, out: &mut [u32])
     let mut k: usize = 0;
     while k < tiles {
         let r = rectangle_of(t, sb128, k);
-        put(&mut *out, 4 * k, r);
+        put_rectangle(&mut *out, 4 * k, r);
         k += 1;
     }
 }

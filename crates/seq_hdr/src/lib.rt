@@ -140,7 +140,7 @@ fn read_tiling(s: &[u8], p: Place, sb128: u8, size: FrameSize, level: Level) -> 
     }
 }
 
-fn refuse(answer: Answer, p: Place) -> SeqRead
+fn refuse_header(answer: Answer, p: Place) -> SeqRead
     ensures { λ r. ⌜ r ≡ refusedHeader answer p ⌝ }
 {
     let hdr = no_seq_hdr();
@@ -166,7 +166,7 @@ fn check_trailing_bits(s: &[u8], p: Place, hdr: SequenceHeader, strict: bool) ->
     let one = get_flag(s, extension.next);
     let next = one.next;
     if next.error | !one.value {
-        return refuse(Answer::InvalidTrailingBits, next);
+        return refuse_header(Answer::InvalidTrailingBits, next);
     }
     SeqRead {
         answer: Answer::Accepted,
@@ -187,7 +187,7 @@ fn read_groups(s: &[u8], p: Place, start: Start, level: Level, format: Format) -
     let motion = read_motion(s, blocks.next, reduced);
     let refs = read_ref_frames(s, motion.next, reduced);
     if above(refs.fields.ref_frames as u32, 8) {
-        return refuse(Answer::InvalidSequenceHeader, refs.next);
+        return refuse_header(Answer::InvalidSequenceHeader, refs.next);
     }
     let inter = read_inter(s, refs.next, reduced);
     let residual = read_residual(s, inter.next, mono, reduced);
@@ -225,15 +225,15 @@ fn read_head(s: &[u8], p: Place) -> SeqRead
 {
     let start = read_start(s, p);
     if unknown_profile(start.fields.profile) {
-        return refuse(Answer::InvalidSequenceHeader, start.next);
+        return refuse_header(Answer::InvalidSequenceHeader, start.next);
     }
     let level = read_level(s, start.next);
     if above(level.layout_idx, 3) {
-        return refuse(Answer::InvalidSequenceHeader, level.next);
+        return refuse_header(Answer::InvalidSequenceHeader, level.next);
     }
     let format = read_format(s, level.next, level.layout_idx);
     if above(format.depth_idx, 2) {
-        return refuse(Answer::InvalidSequenceHeader, format.next);
+        return refuse_header(Answer::InvalidSequenceHeader, format.next);
     }
     read_groups(s, format.next, start.fields, level.fields, format.fields)
 }
@@ -262,12 +262,12 @@ pub fn parse_seq_hdr(s: &[u8], p: Place, strict: bool) -> SeqRead
     let tiling = read_tiling(s, head.next, sb128, hdr.picture.size, hdr.level);
     let answer = tiling.answer;
     if is_refusal(answer) {
-        return refuse(Answer::InvalidTileInfo, tiling.next);
+        return refuse_header(Answer::InvalidTileInfo, tiling.next);
     }
     let grain = get_flag(s, tiling.next);
     let next = grain.next;
     if next.error {
-        return refuse(Answer::InvalidSequenceHeader, next);
+        return refuse_header(Answer::InvalidSequenceHeader, next);
     }
     let tiling = tiling.fields;
     let hdr = with_tiling(hdr, tiling, grain.value);

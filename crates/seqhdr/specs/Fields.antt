@@ -4,11 +4,11 @@ use mathlib.Core.List.{List, [], _∷_, _++_}
 use Prim.Native.Nat.{ℕ}
 use Prim.Native.String.{String}
 use lib.IntN.{ℤ}
-use lib.ListN.{take}
 use Rattle.flat_hdr.specs.Header.{flatSeqHdr}
 use Rattle.getbits.specs.Chain.{pick}
+use Rattle.program.specs.Output.{startsText}
 use Rattle.seq_record.specs.declared.SequenceHeader.{SequenceHeader}
-use Rattle.text.specs.Text.{word, nexts, row, filled, line, lines}
+use Rattle.text.specs.Text.{word, nexts, filled, line, lines}
 use Rattle.tile_layout.specs.declared.TileInfo.{TileInfo}
 
 -- a name and a number
@@ -16,8 +16,8 @@ abbrev pub field : String → ℕ → List ℕ
 field name n = line (word name ++ nexts (n ∷ []))
 
 -- the start, the level, the format, layers and their dependencies
-unfoldable pub startText : List ℤ → List ℕ
-startText xs =
+unfoldable pub openingText : List ℤ → List ℕ
+openingText xs =
     filled (lines ("id #" ∷ "profile #" ∷ "reduced_still_picture_header #" ∷ "level #" ∷ "tier #" ∷ "layout #" ∷
     "ss_hor #" ∷ "ss_ver #" ∷ "hbd #" ∷ "lcr_id #" ∷ "still_picture #" ∷ "max_tlayer_id #" ∷
     "max_mlayer_id #" ∷ [])) xs 0
@@ -64,7 +64,7 @@ filtersText xs =
 
 -- all of these
 unfoldable pub fieldsText : List ℤ → List ℕ
-fieldsText xs = startText xs ++ (sizeText xs ++ (toolsText xs ++ filtersText xs))
+fieldsText xs = openingText xs ++ (sizeText xs ++ (toolsText xs ++ filtersText xs))
 
 -- the layout's flag and its numbers of columns
 unfoldable pub columnsText : TileInfo → List ℕ
@@ -84,12 +84,12 @@ rowsText t =
     ++ field "tiling.t.rows" (t .rows)))
 
 -- the layout: these numbers, then all 65 starts of its columns and of its rows
-unfoldable pub layoutText : TileInfo → List ℕ
-layoutText t =
+unfoldable pub seqLayoutText : TileInfo → List ℕ
+seqLayoutText t =
     columnsText t
     ++ (rowsText t
-    ++ ((word "tiling.t.col_start_sb " ++ line (row (take 65 (t .«col_start_sb»))))
-    ++ (word "tiling.t.row_start_sb " ++ line (row (take 65 (t .«row_start_sb»))))))
+    ++ ((word "tiling.t.col_start_sb " ++ startsText (t .«col_start_sb») 65)
+    ++ (word "tiling.t.row_start_sb " ++ startsText (t .«row_start_sb») 65)))
 
 -- the last field
 unfoldable pub grainText : List ℤ → List ℕ
@@ -97,4 +97,4 @@ grainText xs = filled (lines ("film_grain_present #" ∷ [])) xs 145
 
 -- the whole header
 unfoldable pub headerText : SequenceHeader → List ℕ
-headerText hdr = fieldsText (flatSeqHdr hdr) ++ (layoutText (hdr .tiling .t) ++ grainText (flatSeqHdr hdr))
+headerText hdr = fieldsText (flatSeqHdr hdr) ++ (seqLayoutText (hdr .tiling .t) ++ grainText (flatSeqHdr hdr))

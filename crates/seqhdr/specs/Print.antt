@@ -18,18 +18,18 @@ abbrev pub placeNumbers : Place → List ℕ
 placeNumbers next = positionOf next ∷ pick (next .error) 1 0 ∷ []
 
 -- accepted: ok, bits used, reader error; then the fields
-unfoldable pub acceptedText : SequenceHeader → Place → List ℕ
-acceptedText hdr next = line (word "ok" ++ nexts (placeNumbers next)) ++ headerText hdr
+unfoldable pub seqAcceptedText : SequenceHeader → Place → List ℕ
+seqAcceptedText hdr next = line (word "ok" ++ nexts (placeNumbers next)) ++ headerText hdr
 
 -- refused: no, the number, bits used, reader error; no 4 alone
 unfoldable pub refusalText : ℕ → Place → List ℕ
 refusalText n next = pick (eqb n 4) (refusedText n) (line (word "no" ++ nexts (n ∷ placeNumbers next)))
 
 -- what is printed of a reading
-unfoldable pub readText : SeqRead → List ℕ
-readText r =
-    pick (isRefusal (r .answer)) (refusalText (numberOf (r .answer)) (r .next)) (acceptedText (r .hdr) (r .next))
+unfoldable pub seqReadText : SeqRead → List ℕ
+seqReadText r =
+    pick (isRefusal (r .answer)) (refusalText (numberOf (r .answer)) (r .next)) (seqAcceptedText (r .hdr) (r .next))
 
 -- what is printed of an input
 unfoldable pub seqhdrText : List ℕ → List ℕ
-seqhdrText s = readText (seqRequest s)
+seqhdrText s = seqReadText (seqRequest s)

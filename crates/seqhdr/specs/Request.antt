@@ -12,12 +12,12 @@ use Rattle.seq_hdr.specs.declared.SeqRead.{SeqRead}
 use Rattle.seq_hdr.specs.Header.{parseSeqHdr}
 
 -- a first byte of 0 or 1, and 65,536 bytes at most
-abbrev pub isRequest : List ℕ → Bool
-isRequest s = (leb 1 (length s) && leb (length s) 65536) && leb (getD s 0 0) 1
+abbrev pub isSeqRequest : List ℕ → Bool
+isSeqRequest s = (leb 1 (length s) && leb (length s) 65536) && leb (getD s 0 0) 1
 
 -- another input is 4
 unfoldable pub seqRequest : List ℕ → SeqRead
 seqRequest s =
-    pick (isRequest s)
+    pick (isSeqRequest s)
     (parseSeqHdr (drop 1 s) (placeAt 0 false) (eqb (getD s 0 0) 1))
     (record { answer = WrongArguments; hdr = noSeqHdr; next = placeAt 0 false })

@@ -4,11 +4,12 @@ ghost use mathlib.Core.Path.{_≡_};
 ghost use Prim.Native.Nat.{_+_};
 ghost use lib.ListN.{length, take};
 ghost use Rattle.io.specs.Counts.{Counts};
-ghost use Rattle.text.specs.Text.{Put, nexts, row, line};
-ghost use Rattle.seqhdr.specs.Fields.{startText, sizeText, toolsText, filtersText, fieldsText};
-ghost use Rattle.seqhdr.specs.Fields.{columnsText, rowsText, layoutText, headerText};
-ghost use Rattle.seqhdr.specs.Print.{acceptedText, refusalText, readText, seqhdrText};
-ghost use Rattle.seqhdr.specs.Request.{isRequest, seqRequest};
+ghost use Rattle.program.specs.Output.{startsText};
+ghost use Rattle.text.specs.Text.{Put, nexts, line};
+ghost use Rattle.seqhdr.specs.Fields.{openingText, sizeText, toolsText, filtersText, fieldsText};
+ghost use Rattle.seqhdr.specs.Fields.{columnsText, rowsText, seqLayoutText, headerText};
+ghost use Rattle.seqhdr.specs.Print.{seqAcceptedText, refusalText, seqReadText, seqhdrText};
+ghost use Rattle.seqhdr.specs.Request.{isSeqRequest, seqRequest};
 use answers::Answer;
 use answers::is_refusal;
 use answers::number;
@@ -30,7 +31,7 @@ use text::put_word;
 use tile_layout::TileInfo;
 
 fn is_request(s: &[u8]) -> bool
-    ensures { λ r. ⌜ r ≡ isRequest (now (s .entry)) ⌝ }
+    ensures { λ r. ⌜ r ≡ isSeqRequest (now (s .entry)) ⌝ }
 {
     if s.len() < 1 {
         return false;
@@ -59,8 +60,8 @@ fn request(s: &[u8]) -> SeqRead
 }
 
 // The start, the level, the format, layers and their dependencies.
-fn put_start(out: &mut [u8], at: usize, xs: &[i64]) -> usize
-    ensures { λ r. ⌜ Put 6111 (now (out .entry)) at (startText (now (xs .entry))) (now (out .exit)) r ⌝ }
+fn put_opening(out: &mut [u8], at: usize, xs: &[i64]) -> usize
+    ensures { λ r. ⌜ Put 6111 (now (out .entry)) at (openingText (now (xs .entry))) (now (out .exit)) r ⌝ }
 {
     let first = put_filled(
         out,
@@ -260,15 +261,15 @@ fn put_filters(out: &mut [u8], at: usize, xs: &[i64]) -> usize
 fn put_fields(out: &mut [u8], at: usize, xs: &[i64]) -> usize
     ensures { λ r. ⌜ Put 39963 (now (out .entry)) at (fieldsText (now (xs .entry))) (now (out .exit)) r ⌝ }
 {
-    let start = put_start(out, at, xs);
-    let size = put_size(out, start, xs);
+    let opening = put_opening(out, at, xs);
+    let size = put_size(out, opening, xs);
     let tools = put_tools(out, size, xs);
     put_filters(out, tools, xs)
 }
 
 // A name and 65 starts.
 fn put_starts(out: &mut [u8], at: usize, name: &[u8], starts: &[u16; 65]) -> usize
-    ensures { λ r. ⌜ Put (length (now (name .entry)) + 1366) (now (out .entry)) at (now (name .entry) ++ line (row (take 65 (now (starts .entry))))) (now (out .exit)) r ⌝ }
+    ensures { λ r. ⌜ Put (length (now (name .entry)) + 1366) (now (out .entry)) at (now (name .entry) ++ startsText (now (starts .entry)) 65) (now (out .exit)) r ⌝ }
 {
     let next = put_word(out, at, name);
     put_row(out, next, starts, 65)
@@ -306,7 +307,7 @@ fn put_rows(out: &mut [u8], at: usize, t: TileInfo) -> usize
 }
 
 fn put_layout(out: &mut [u8], at: usize, t: TileInfo) -> usize
-    ensures { λ r. ⌜ Put 3140 (now (out .entry)) at (layoutText t) (now (out .exit)) r ⌝ }
+    ensures { λ r. ⌜ Put 3140 (now (out .entry)) at (seqLayoutText t) (now (out .exit)) r ⌝ }
 {
     let cols = t.col_start_sb;
     let rows = t.row_start_sb;
@@ -329,8 +330,8 @@ fn put_header(out: &mut [u8], at: usize, hdr: SequenceHeader) -> usize
     put_filled(out, second, b"film_grain_present #\n", &flat, 145)
 }
 
-fn put_accepted(out: &mut [u8], hdr: SequenceHeader, next: Place) -> usize
-    ensures { λ r. ⌜ Put 43589 (now (out .entry)) 0 (acceptedText hdr next) (now (out .exit)) r ⌝ }
+fn put_seq_accepted(out: &mut [u8], hdr: SequenceHeader, next: Place) -> usize
+    ensures { λ r. ⌜ Put 43589 (now (out .entry)) 0 (seqAcceptedText hdr next) (now (out .exit)) r ⌝ }
 {
     let xs = [position_of(next) as u64, next.error as u64];
     let head = put_line(out, 0, b"ok", &xs);
@@ -348,7 +349,7 @@ fn put_refusal(out: &mut [u8], n: u32, next: Place) -> usize
 }
 
 fn put_read(out: &mut [u8], r: SeqRead) -> usize
-    ensures { λ n. ⌜ Put 43589 (now (out .entry)) 0 (readText r) (now (out .exit)) n ⌝ }
+    ensures { λ n. ⌜ Put 43589 (now (out .entry)) 0 (seqReadText r) (now (out .exit)) n ⌝ }
 {
     let answer = r.answer;
     let next = r.next;
@@ -356,7 +357,7 @@ fn put_read(out: &mut [u8], r: SeqRead) -> usize
         return put_refusal(out, number(answer), next);
     }
     let hdr = r.hdr;
-    put_accepted(out, hdr, next)
+    put_seq_accepted(out, hdr, next)
 }
 
 // From the input's bytes to the output's.

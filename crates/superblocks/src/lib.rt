@@ -365,7 +365,7 @@ impl SeqStarts {
 }
 
 // The start of tile i is stored, or the closing one.
-pub fn put(starts: &mut [u16; 65], i: u8, start: FrameSb)
+pub fn put_start(starts: &mut [u16; 65], i: u8, start: FrameSb)
     ensures { λ r. ⌜ now (starts .exit) ≡ set (now (starts .entry)) (min i 64) (start .0 % 65536) ⌝ }
 {
     let at = entry(i);

@@ -12,16 +12,16 @@ use Rattle.superblocks.specs.Counts.{multiplierOf}
 use Rattle.text.specs.Text.{word, decimal, decimalIn, nexts, row}
 use Rattle.program.specs.Output.{acceptedText, refusedText}
 use Rattle.tile.specs.Request.{tileRequest}
-use Rattle.tile.specs.Print.{headText, layoutText, readText, tileText}
+use Rattle.tile.specs.Print.{tileHeadText, tileLayoutText, tileReadText, tileText}
 
 listing : tileText (0xFF ∷ 0x00 ∷ 0x7F ∷ 0x00 ∷ 0 ∷ 0 ∷ 0 ∷ 0 ∷ 0x28 ∷ []) ≡ word "ok N 3 1 5 0\n0 2 3 4\n0 2\n"
 unfolding leadingZeros then turns bitsAt position readBits getBit getBits getFlag runOf getUniform
     inDomain superblocks widthLimit areaLimit doublings minLog2Cols maxLog2Cols maxLog2Rows minLog2Tiles
     tabulate fullCount base count larger startAt readLog2 uniformInfo uniformLayout readSizes sum widest startsFrom
     rowArea rowLimit readCols readRows nonUniformInfo nonUniformLayout parseTileInfo multiplierOf
-    word decimal decimalIn nexts row tileRequest headText layoutText acceptedText refusedText readText tileText
+    word decimal decimalIn nexts row tileRequest tileHeadText tileLayoutText acceptedText refusedText tileReadText tileText
 listing = refl
 
 nothing : tileText [] ≡ word "no 4\n"
-unfolding word decimal decimalIn nexts tileRequest refusedText readText tileText
+unfolding word decimal decimalIn nexts tileRequest refusedText tileReadText tileText
 nothing = refl

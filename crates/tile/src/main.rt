@@ -1,12 +1,14 @@
 // Reads a request and tiling bits from standard input, and prints the layout.
 ghost use mathlib.Core.Path.{_≡_};
+ghost use Prim.Native.Nat.{_+_};
 ghost use lib.IntN.{pos};
 ghost use lib.ListN.{take};
 ghost use Rattle.io.specs.Counts.{Counts};
+ghost use Rattle.program.specs.Output.{startsText};
 ghost use Rattle.superblocks.specs.Counts.{multiplierOf};
 ghost use Rattle.text.specs.Text.{Put};
-ghost use Rattle.tile.specs.Print.{headText, startsText, layoutText, readText, tileText};
-ghost use Rattle.tile.specs.Request.{samplesAt, isRequest, tileRequest};
+ghost use Rattle.tile.specs.Print.{tileHeadText, tileLayoutText, tileReadText, tileText};
+ghost use Rattle.tile.specs.Request.{samplesAt, isTileRequest, tileRequest};
 use answers::Answer;
 use answers::is_refusal;
 use answers::number;
@@ -41,7 +43,7 @@ fn multiplier(sb128: u8, seq_sb128: u8) -> i32
 }
 
 fn is_request(s: &[u8]) -> bool
-    ensures { λ r. ⌜ r ≡ isRequest (now (s .entry)) ⌝ }
+    ensures { λ r. ⌜ r ≡ isTileRequest (now (s .entry)) ⌝ }
 {
     (8 <= s.len()) & is_input(s)
 }
@@ -82,7 +84,7 @@ fn request(s: &[u8]) -> TileRead
 }
 
 fn put_head(out: &mut [u8], t: TileInfo, next: Place) -> usize
-    ensures { λ r. ⌜ Put 89 (now (out .entry)) 0 (headText t next) (now (out .exit)) r ⌝ }
+    ensures { λ r. ⌜ Put 89 (now (out .entry)) 0 (tileHeadText t next) (now (out .exit)) r ⌝ }
 {
     let xs = [
         t.cols as u64,
@@ -95,13 +97,13 @@ fn put_head(out: &mut [u8], t: TileInfo, next: Place) -> usize
 
 // The n starts and the closing one.
 fn put_starts(out: &mut [u8], at: usize, starts: &[u16; 65], n: u8) -> usize
-    ensures { λ r. ⌜ Put 5377 (now (out .entry)) at (startsText (now (starts .entry)) n) (now (out .exit)) r ⌝ }
+    ensures { λ r. ⌜ Put 5377 (now (out .entry)) at (startsText (now (starts .entry)) (n + 1)) (now (out .exit)) r ⌝ }
 {
     put_row(out, at, starts, n as usize + 1)
 }
 
 fn put_layout(out: &mut [u8], t: TileInfo, next: Place) -> usize
-    ensures { λ r. ⌜ Put 10843 (now (out .entry)) 0 (layoutText t next) (now (out .exit)) r ⌝ }
+    ensures { λ r. ⌜ Put 10843 (now (out .entry)) 0 (tileLayoutText t next) (now (out .exit)) r ⌝ }
 {
     let cols = t.col_start_sb;
     let rows = t.row_start_sb;
@@ -111,7 +113,7 @@ fn put_layout(out: &mut [u8], t: TileInfo, next: Place) -> usize
 }
 
 fn put_read(out: &mut [u8], r: TileRead) -> usize
-    ensures { λ n. ⌜ Put 10843 (now (out .entry)) 0 (readText r) (now (out .exit)) n ⌝ }
+    ensures { λ n. ⌜ Put 10843 (now (out .entry)) 0 (tileReadText r) (now (out .exit)) n ⌝ }
 {
     let answer = r.answer;
     if is_refusal(answer) {

@@ -8,7 +8,7 @@ ghost use Rattle.tile_info.specs.Inner.{Known, SizesOf, TilesOf};
 use super::limits::FrameLimits;
 use getbits::Place;
 use superblocks::FrameSb;
-use superblocks::put;
+use superblocks::put_start;
 use superblocks::read_size;
 use superblocks::tiles_log2;
 use tile_layout::TileArgs;
@@ -32,7 +32,7 @@ fn read_sizes(s: &[u8], p: Place, starts: [u16; 65], total: FrameSb, limit: Fram
     let mut widest_tile = FrameSb::none();
     let mut tiles: u8 = 0;
     while sbx.below(total) && tiles < 64 {
-        put(&mut at, tiles, sbx);
+        put_start(&mut at, tiles, sbx);
         let z = read_size(s, next, total.minus(sbx), limit);
         next = z.next;
         widest_tile = widest_tile.most(z.size);
@@ -65,7 +65,7 @@ pub fn read_tiles(s: &[u8], p: Place, starts: [u16; 65], total: FrameSb, limit: 
     let z = read_sizes(s, p, starts, total, limit);
     let mut at = z.starts;
     let tiles = z.tiles;
-    put(&mut at, tiles, total);
+    put_start(&mut at, tiles, total);
     let log2 = tiles_log2(tiles);
     let short = z.sum.below(total);
     let widest = z.widest;

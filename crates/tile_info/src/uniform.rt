@@ -14,7 +14,7 @@ use superblocks::Pair;
 use superblocks::SeqSb;
 use superblocks::Split;
 use superblocks::even_split;
-use superblocks::put;
+use superblocks::put_start;
 use tile_layout::TileArgs;
 
 pub struct Log2 {
@@ -54,14 +54,14 @@ fn fill(starts: [u16; 65], pair: Pair, split: Split, end: FrameSb) -> [u16; 65]
     let mut sbx = SeqSb::none();
     let mut i: u8 = 0;
     while split.tiles.has(i) {
-        put(&mut at, i, sbx.in_frame(pair));
+        put_start(&mut at, i, sbx.in_frame(pair));
         sbx = sbx.plus(split.tile);
         if split.extra.has(i) {
             sbx = sbx.plus(SeqSb::one());
         }
         i += 1;
     }
-    put(&mut at, i, end);
+    put_start(&mut at, i, end);
     at
 }
 

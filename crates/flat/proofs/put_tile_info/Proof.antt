@@ -26,8 +26,8 @@ has k = sym (k .before .has-room .ensures) ∙ k .if1 .taken
 roomy : (k : tie.Then1) → Room (given (k .before .before .before .before .before .before .before .before))
 roomy k = room (given (k .before .before .before .before .before .before .before .before)) (has k)
 
-put-bytes-requires : tie.Need-put-bytes-requires
-put-bytes-requires c κs = roomy (c .before .before .before) .bytes
+put-layout-bytes-requires : tie.Need-put-layout-bytes-requires
+put-layout-bytes-requires c κs = roomy (c .before .before .before) .bytes
 
 copy-starts-requires : tie.Need-copy-starts-requires
 copy-starts-requires c κs =
@@ -47,8 +47,8 @@ returns c =
     let i = q .before .before .before .before .before in
     let k = i .before .before .before .before in
     let s = k .before .before .before .before .before .before .before .before in
-    let put : buffers (i .put-bytes .last .1 .0) (q .copy-starts .last .0) (r .copy-starts2 .last .0) ≡ putLayout (s .args .t) (given s) =
-    rw (i .put-bytes .ensures, q .copy-starts .ensures, r .copy-starts2 .ensures) (sym (taken _ _ _ (has k))) in
+    let put : buffers (i .put-layout-bytes .last .1 .0) (q .copy-starts .last .0) (r .copy-starts2 .last .0) ≡ putLayout (s .args .t) (given s) =
+    rw (i .put-layout-bytes .ensures, q .copy-starts .ensures, r .copy-starts2 .ensures) (sym (taken _ _ _ (has k))) in
     (put, λ h. ap layoutIn put ∙ comes-back (s .args .t) (given s) (cols-length s) (rows-length s) h)
 
 returns-2 : tie.Need-returns-2
@@ -62,7 +62,7 @@ put-tile-info-spec =
     tie.close
     (tie.spec
     (λ c κs. search needs)
-    put-bytes-requires
+    put-layout-bytes-requires
     (λ c. search needs)
     copy-starts-requires
     (λ c. search needs)

@@ -18,7 +18,7 @@ returns c =
     let s = k1 .before .before .before in
     let width = back (s .args .s .«max_width») (k2 .struct-told .given .1 .1 .0 .1) in
     let height = back (s .args .s .«max_height») (k4 .struct-told2 .given .1 .1 .1 .0 .1) in
-    both (both (k1 .put-bytes .ensures) (rw width at (k3 .put-signed .ensures)) (omega (arith, s .pre))) (rw height at (k5 .put-signed2 .ensures)) (omega (arith, s .pre))
+    both (both (k1 .put-bytes .ensures) (rw width at (k3 .put-one-signed .ensures)) (omega (arith, s .pre))) (rw height at (k5 .put-one-signed2 .ensures)) (omega (arith, s .pre))
 
 pub put-size-spec : {M : Type 1} → statement M
 put-size-spec =

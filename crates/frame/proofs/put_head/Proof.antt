@@ -1,12 +1,12 @@
 -- `frame::put_head` meets its contract. Assumes nothing.
 use borrow.Author.Needs.{needs}
 use Rattle.text.proofs.Rows.{flag}
-use Rattle.frame.specs.Print.{headText}
+use Rattle.frame.specs.Print.{frameHeadText}
 use Rattle.frame.proofs.put_head.Statement.{statement}
 use Rattle.frame.proofs.put_head.Tie as tie
 
 returns : tie.Need-returns
-unfolding headText
+unfolding frameHeadText
 returns c =
     let l = c .before .before in
     let p = l .before .before .before .before in

@@ -1,12 +1,12 @@
 -- `frame::put_layout` meets its contract. Assumes nothing.
 use borrow.Author.Needs.{needs}
 use Rattle.text.proofs.Puts.{also}
-use Rattle.frame.specs.Print.{layoutText}
+use Rattle.frame.specs.Print.{frameLayoutText}
 use Rattle.frame.proofs.put_layout.Statement.{statement}
 use Rattle.frame.proofs.put_layout.Tie as tie
 
 returns : tie.Need-returns
-unfolding layoutText
+unfolding frameLayoutText
 returns c =
     let logs = c .before .before in
     let rows = logs .before .before .before .before in

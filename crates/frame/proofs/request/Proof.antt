@@ -10,7 +10,7 @@ use lib.Seq.{take-all}
 use lib.ListN.{length, getD, take, drop, length-drop}
 use lib.Dec.{leb}
 use Rattle.program.specs.Input.{twoAt}
-use Rattle.frame.specs.Request.{frameAt, isRequest, frameRequest}
+use Rattle.frame.specs.Request.{frameAt, isFrameRequest, frameRequest}
 use Rattle.frame_hdr.specs.Sequence.{seqLayout}
 use Rattle.frame_hdr.specs.Frame.{parseTileInfoFrmhdr}
 use Rattle.frame_hdr.specs.declared.FrameHeader.{FrameHeader}
@@ -20,7 +20,7 @@ use Rattle.getbits.specs.Bits.{placeAt}
 use Rattle.frame.proofs.request.Statement.{statement}
 use Rattle.frame.proofs.request.Tie as tie
 
-good : (k : tie.Else1) → isRequest (k .before .before .before .args .s .now) ≡ true
+good : (k : tie.Else1) → isFrameRequest (k .before .before .before .args .s .now) ≡ true
 good k = sym (k .before .is-request .ensures) ∙ not-false _ (k .if1 .left)
 
 -- nothing is missing before the tiling bits

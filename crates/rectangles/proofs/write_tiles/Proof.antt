@@ -36,13 +36,13 @@ loop-holds c = (omega arith, refl, refl)
 rectangle-of-requires : tie.Need-rectangle-of-requires Inv-loop μ-loop
 rectangle-of-requires c κs = (c .before .before .before .before .before .pre .0, c .loop-test .taken)
 
-mul-put : tie.Need-mul-put Inv-loop μ-loop
-mul-put c =
+mul-put-rectangle : tie.Need-mul-put-rectangle Inv-loop μ-loop
+mul-put-rectangle c =
     let l = c .before .before .before in
     omega (arith, room l (c .before .before .loop-test .taken))
 
-put-requires : tie.Need-put-requires Inv-loop μ-loop
-put-requires c κs =
+put-rectangle-requires : tie.Need-put-rectangle-requires Inv-loop μ-loop
+put-rectangle-requires c κs =
     let l = c .before .before .before in
     room l (c .before .before .loop-test .taken)
 
@@ -58,7 +58,7 @@ loop-again : tie.Need-loop-again Inv-loop μ-loop
 loop-again c =
     let l = c .before .before .before .before .before .before in
     let a = l .before .before .before .before in
-    let p = c .before .before .put in
+    let p = c .before .before .put-rectangle in
     let r = c .before .before .before .before .rectangle-of in
     let xs = rowByRow (a .args .t) (a .args .sb128) (l .loop .k) in
     let vs = r .result .left ∷ r .result .top ∷ r .result .width ∷ r .result .height ∷ [] in (
@@ -90,8 +90,8 @@ write-tiles-spec =
     mul-tiles
     loop-holds
     rectangle-of-requires
-    mul-put
-    put-requires
+    mul-put-rectangle
+    put-rectangle-requires
     add-k
     loop-less
     loop-again

@@ -22,7 +22,7 @@ returns-2 c =
     ∙ through _ _ (c3 .get-flag .ensures)
     ∙ through _ _ (c2 .get-flag2 .ensures)
     ∙ taken _ _ _ (c1 .if2 .taken)
-    ∙ sym (c .refuse .ensures))
+    ∙ sym (c .refuse-header .ensures))
 
 returns-3 : tie.Need-returns-3
 unfolding checkTrailingBits

@@ -34,10 +34,10 @@ answers =
       (
         λ c.
             let k = c .before .before in
-            promised _ _ _ (sym (to-tiling k ∙ taken _ _ _ (sym (k .is-refusal2 .ensures) ∙ c .before .if2 .taken) ∙ sym (c .refuse .ensures))),
+            promised _ _ _ (sym (to-tiling k ∙ taken _ _ _ (sym (k .is-refusal2 .ensures) ∙ c .before .if2 .taken) ∙ sym (c .refuse-header .ensures))),
         (
           λ c.
-              promised _ _ _ (sym (to-grain (c .before .before .before) ∙ taken _ _ _ (c .before .if3 .taken) ∙ sym (c .refuse2 .ensures))),
+              promised _ _ _ (sym (to-grain (c .before .before .before) ∙ taken _ _ _ (c .before .if3 .taken) ∙ sym (c .refuse-header2 .ensures))),
           λ c.
               let w = c .before in
               let k = w .before .before in

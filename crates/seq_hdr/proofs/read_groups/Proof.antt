@@ -24,7 +24,7 @@ answers =
     ∙ through _ _ (c1 .read-ref-frames .ensures) in (
       λ c.
           let k = c .before .before in
-          sym (to-refs k ∙ taken _ _ _ (sym (k .above .ensures) ∙ c .before .if1 .taken) ∙ sym (c .refuse .ensures)),
+          sym (to-refs k ∙ taken _ _ _ (sym (k .above .ensures) ∙ c .before .if1 .taken) ∙ sym (c .refuse-header .ensures)),
       λ c.
           let f = c .before .before .before .before .before .before .before .before .before in
           let r = f .before in

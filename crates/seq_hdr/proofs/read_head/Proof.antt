@@ -20,11 +20,11 @@ answers =
     λ c.
     let k = c .before .before in
     to-layout (k .before) ∙ left _ _ _ (sym (k .before .above .ensures) ∙ k .if2 .left) ∙ through _ _ (c .before .read-format .ensures) in (
-      λ c. sym (to-profile (c .before .before) ∙ taken _ _ _ (sym (c .before .before .unknown-profile .ensures) ∙ c .before .if1 .taken) ∙ sym (c .refuse .ensures)),
+      λ c. sym (to-profile (c .before .before) ∙ taken _ _ _ (sym (c .before .before .unknown-profile .ensures) ∙ c .before .if1 .taken) ∙ sym (c .refuse-header .ensures)),
       (
-        λ c. sym (to-layout (c .before .before) ∙ taken _ _ _ (sym (c .before .before .above .ensures) ∙ c .before .if2 .taken) ∙ sym (c .refuse2 .ensures)),
+        λ c. sym (to-layout (c .before .before) ∙ taken _ _ _ (sym (c .before .before .above .ensures) ∙ c .before .if2 .taken) ∙ sym (c .refuse-header2 .ensures)),
         (
-          λ c. sym (to-depth (c .before .before) ∙ taken _ _ _ (sym (c .before .before .above2 .ensures) ∙ c .before .if3 .taken) ∙ sym (c .refuse3 .ensures)),
+          λ c. sym (to-depth (c .before .before) ∙ taken _ _ _ (sym (c .before .before .above2 .ensures) ∙ c .before .if3 .taken) ∙ sym (c .refuse-header3 .ensures)),
           λ c. sym (to-depth (c .before .before) ∙ left _ _ _ (sym (c .before .before .above2 .ensures) ∙ c .before .if3 .left) ∙ sym (c .read-groups .ensures)),
         ),
       ),

@@ -12,7 +12,7 @@ returns c =
     let tools = filters .before .before .before .before in
     let size = tools .before .before .before .before in
     let start = size .before .before .before .before in
-    also (start .put-start .ensures) (also (size .put-size .ensures) (also (tools .put-tools .ensures) (filters .put-filters .ensures)))
+    also (start .put-opening .ensures) (also (size .put-size .ensures) (also (tools .put-tools .ensures) (filters .put-filters .ensures)))
 
 pub put-fields-spec : {M : Type 1} → statement M
 put-fields-spec =

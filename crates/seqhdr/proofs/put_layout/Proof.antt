@@ -2,12 +2,12 @@
 use borrow.Author.Needs.{needs}
 use Rattle.text.specs.Text.{word}
 use Rattle.text.proofs.Puts.{also}
-use Rattle.seqhdr.specs.Fields.{layoutText}
+use Rattle.seqhdr.specs.Fields.{seqLayoutText}
 use Rattle.seqhdr.proofs.put_layout.Statement.{statement}
 use Rattle.seqhdr.proofs.put_layout.Tie as tie
 
 returns : tie.Need-returns
-unfolding layoutText word
+unfolding seqLayoutText word
 returns c =
     let row-starts = c .before .before in
     let col-starts = row-starts .before .before .before .before .before .before in

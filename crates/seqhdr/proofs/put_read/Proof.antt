@@ -2,23 +2,23 @@
 use borrow.Author.Needs.{needs}
 use native.Mathlib.Omega.{arith}
 use Rattle.text.proofs.Puts.{within}
-use Rattle.seqhdr.specs.Print.{readText}
+use Rattle.seqhdr.specs.Print.{seqReadText}
 use Rattle.seqhdr.proofs.put_read.Statement.{statement}
 use Rattle.seqhdr.proofs.put_read.Tie as tie
 
 returns : tie.Need-returns
-unfolding readText
+unfolding seqReadText
 returns c =
     let p = c .before .before in
     let t = p .before .before .before in
     rw (← t .before .is-refusal .ensures, t .if1 .taken, ← p .before .number .ensures) (within (omega arith) (p .put-refusal .ensures))
 
 returns-2 : tie.Need-returns-2
-unfolding readText
+unfolding seqReadText
 returns-2 c =
     let p = c .before .before in
     let e = p .before .before .before in
-    rw (← e .before .is-refusal .ensures, e .if1 .left) (p .put-accepted .ensures)
+    rw (← e .before .is-refusal .ensures, e .if1 .left) (p .put-seq-accepted .ensures)
 
 pub put-read-spec : {M : Type 1} → statement M
 put-read-spec =

@@ -1,12 +1,12 @@
 -- `tile::put_head` meets its contract. Assumes nothing.
 use borrow.Author.Needs.{needs}
 use Rattle.text.proofs.Rows.{flag}
-use Rattle.tile.specs.Print.{headText}
+use Rattle.tile.specs.Print.{tileHeadText}
 use Rattle.tile.proofs.put_head.Statement.{statement}
 use Rattle.tile.proofs.put_head.Tie as tie
 
 returns : tie.Need-returns
-unfolding headText
+unfolding tileHeadText
 returns c =
     let l = c .before .before in
     let p = l .before .before .before .before in

@@ -1,12 +1,12 @@
 -- `tile::put_layout` meets its contract. Assumes nothing.
 use borrow.Author.Needs.{needs}
 use Rattle.text.proofs.Puts.{also}
-use Rattle.tile.specs.Print.{layoutText}
+use Rattle.tile.specs.Print.{tileLayoutText}
 use Rattle.tile.proofs.put_layout.Statement.{statement}
 use Rattle.tile.proofs.put_layout.Tie as tie
 
 returns : tie.Need-returns
-unfolding layoutText
+unfolding tileLayoutText
 returns c =
     let rows = c .before .before in
     let cols = rows .before .before .before .before .before in

@@ -2,19 +2,19 @@
 use native.Mathlib.Omega.{arith}
 use borrow.Author.Needs.{needs}
 use Rattle.text.proofs.Puts.{within}
-use Rattle.tile.specs.Print.{readText}
+use Rattle.tile.specs.Print.{tileReadText}
 use Rattle.tile.proofs.put_read.Statement.{statement}
 use Rattle.tile.proofs.put_read.Tie as tie
 
 returns : tie.Need-returns
-unfolding readText
+unfolding tileReadText
 returns c =
     let p = c .before .before in
     let t = p .before .before .before in
     rw (← t .before .is-refusal .ensures, t .if1 .taken, ← p .before .number .ensures) (within (omega arith) (p .put-refused .ensures))
 
 returns-2 : tie.Need-returns-2
-unfolding readText
+unfolding tileReadText
 returns-2 c =
     let p = c .before .before in
     let e = p .before .before .before .before in

@@ -41,7 +41,7 @@ loop-again c =
     let g : y .start .result .0 ≡ getD starts (l .i) 0 = y .start .ensures ∙ ap (λ (j : ℕ). getD starts j 0) e in
     let d : x .in-frame .result .0 ≡ 2 * y .start .result .0 % 4294967296 = rw (s .pre .2) at (x .in-frame .ensures) in
     let v : x .in-frame .result .0 % 65536 ≡ 2 * getD starts (l .i) 0 = omega (arith, d, g, start-low starts (s .args .tiles) (l .i) (s .pre .1) (omega arith)) in
-    (omega arith, c .put .ensures ∙ rw (e, v, l .inv .1) (stored (λ j. 2 * getD starts j 0) starts (l .i) (2 * getD starts (l .i) 0) refl (omega (arith, s .pre .0, given-length s))))
+    (omega arith, c .put-start .ensures ∙ rw (e, v, l .inv .1) (stored (λ j. 2 * getD starts j 0) starts (l .i) (2 * getD starts (l .i) 0) refl (omega (arith, s .pre .0, given-length s))))
 
 returns : tie.Need-returns Inv-loop μ-loop
 returns c =

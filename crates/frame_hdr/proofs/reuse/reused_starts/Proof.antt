@@ -38,7 +38,7 @@ returns-2 c =
     let i : min (s .args .tiles) 64 ≡ s .args .tiles = omega (arith, s .pre .0) in
     let v : s .args .closing .0 % 65536 ≡ s .args .closing .0 = omega (arith, s .pre .2) in
     rw (doubled (d .before))
-    (c .put .ensures ∙ rw (i, v, d .doubled-starts .ensures) (closed (λ j. 2 * getD starts j 0) starts (s .args .tiles) (s .args .closing .0) (omega (arith, s .pre .0, given-length s))))
+    (c .put-start .ensures ∙ rw (i, v, d .doubled-starts .ensures) (closed (λ j. 2 * getD starts j 0) starts (s .args .tiles) (s .args .closing .0) (omega (arith, s .pre .0, given-length s))))
 
 pub reused-starts-spec : {M : Type 1} → statement M
 reused-starts-spec =

@@ -43,7 +43,7 @@ loop-again c =
     let s = b .before .before .before .before .before in
     let n : l .tiles < 64 = omega (arith, ltb-true) in
     walk-next _ _ _ _ _ (l .inv) (less b (t .if1 .taken)) n (omega (arith, given-length s)) (s .pre .0) (s .pre .1)
-    (m .minus .ensures) (r .read-size .ensures .0) (r .read-size .ensures .1) (p .put .ensures) (c .before .most .ensures) (c .plus .ensures)
+    (m .minus .ensures) (r .read-size .ensures .0) (r .read-size .ensures .1) (p .put-start .ensures) (c .before .most .ensures) (c .plus .ensures)
 
 returns : tie.Need-returns Inv-loop μ-loop
 returns c = all-used _ _ _ _ _ _ (c .before .before .before .loop .inv) (omega (arith, ltb-false))

@@ -35,7 +35,7 @@ returns c =
       wides = z .wides;
       stands = z .stands;
       stored =
-          put .put .ensures
+          put .put-start .ensures
           ∙ rw (i, v, z .stored) (grow (startsFrom 0 sizes) (a .starts) n (a .total .0) (length-starts sizes 0 ∙ sym (z .counted)) (omega (arith, z .few, given-length s)));
     }
 

@@ -70,7 +70,7 @@ loop-again c =
           (λ w. omega (arith, ap (λ (z : SeqSb). z .0) (w .1), plus .plus .ensures, times-next b (l .i), ends t, l .inv .0, ltb-false (l .i) (s .args .split .extra .0) (sym (c .before .has2 .ensures) ∙ w .0 .left)))
           (c .if2 .came),
       omega (arith, more t),
-      put .put .ensures
+      put .put-start .ensures
           ∙ rw (e, v, l .inv .2) (stored _ (s .args .starts) (l .i) (m * l .sbx .0) (ap (_*_ m) (l .inv .0)) (omega (arith, more t, s .pre .0, given-length s))),
     )
 
@@ -82,7 +82,7 @@ returns c =
     let q : l .i ≡ s .args .split .tiles .0 = omega (arith, l .inv .1, ltb-false (l .i) (s .args .split .tiles .0) (sym (e .before .has .ensures) ∙ e .if1 .left)) in
     let i : min (l .i) 64 ≡ l .i = omega (arith, s .pre .0) in
     let v : s .args .end .0 % 65536 ≡ s .args .end .0 = omega (arith, s .pre .2) in
-    c .put2 .ensures
+    c .put-start2 .ensures
     ∙ rw (i, v, l .inv .2, ← q) (closed _ (s .args .starts) (l .i) (s .args .end .0) (omega (arith, s .pre .0, given-length s)))
 
 pub fill-spec : {M : Type 1} → statement M

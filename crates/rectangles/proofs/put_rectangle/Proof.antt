@@ -1,11 +1,11 @@
--- `rectangles::put` meets its contract. Assumes nothing.
+-- `rectangles::put_rectangle` meets its contract. Assumes nothing.
 use mathlib.Core.Path.{_≡_}
 use Prim.Native.Nat.{suc, _+_}
 use native.Mathlib.Omega.{arith}
 use borrow.Author.Needs.{needs}
 use lib.ListN.{length-set}
-use Rattle.rectangles.proofs.put.Statement.{statement}
-use Rattle.rectangles.proofs.put.Tie as tie
+use Rattle.rectangles.proofs.put_rectangle.Statement.{statement}
+use Rattle.rectangles.proofs.put_rectangle.Tie as tie
 
 slice-write-out-2 : tie.Need-slice-write-out-2
 slice-write-out-2 c = simp length-set (omega arith)
@@ -24,8 +24,8 @@ returns c =
     let three : at + 3 ≡ suc (suc (suc at)) = omega arith in
     rw (one, two, three)
 
-pub put-spec : {M : Type 1} → statement M
-put-spec =
+pub put-rectangle-spec : {M : Type 1} → statement M
+put-rectangle-spec =
     tie.close
     (tie.spec
     (λ c. search needs)

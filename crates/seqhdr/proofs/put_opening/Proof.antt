@@ -1,21 +1,21 @@
--- `seqhdr::put_start` meets its contract. Assumes nothing.
+-- `seqhdr::put_opening` meets its contract. Assumes nothing.
 use borrow.Author.Needs.{needs}
 use Rattle.text.specs.Text.{word, lines}
 use Rattle.text.proofs.Puts.{also}
-use Rattle.seqhdr.specs.Fields.{startText}
-use Rattle.seqhdr.proofs.put_start.Statement.{statement}
-use Rattle.seqhdr.proofs.put_start.Tie as tie
+use Rattle.seqhdr.specs.Fields.{openingText}
+use Rattle.seqhdr.proofs.put_opening.Statement.{statement}
+use Rattle.seqhdr.proofs.put_opening.Tie as tie
 
 returns : tie.Need-returns
-unfolding startText lines word
+unfolding openingText lines word
 returns c =
     let third = c .before .before in
     let second = third .before .before .before .before .before in
     let first = second .before .before .before .before .before in
     also (first .put-filled .ensures) (also (second .put-filled2 .ensures) (third .put-filled3 .ensures))
 
-pub put-start-spec : {M : Type 1} → statement M
-put-start-spec =
+pub put-opening-spec : {M : Type 1} → statement M
+put-opening-spec =
     tie.close
     (tie.spec
     (λ c. search needs)
