@@ -1,6 +1,6 @@
 // The bit reader, by value: a place goes in beside the bytes, and the next place comes back.
 ghost use mathlib.Core.Path.{_≡_};
-ghost use Prim.Native.Nat.{_+_, _*_, _-_, _%_, _^_, _<_, _≤_};
+ghost use Prim.Native.Nat.{_+_, _-_, _%_, _^_, _<_, _≤_};
 ghost use lib.IntN.{pos, negsuc};
 ghost use lib.ListN.{length, drop};
 ghost use Rattle.getbits.specs.Bits.{settled, runOut, refused, lookAt, getBit, getBits, signedOf, getSbits, bytePos, byteAlign, bitsIf, getFlag, flagIf};
