@@ -306,11 +306,11 @@ impl FrameSb {
 }
 
 impl AreaSb {
-    // The least logarithm by which tiles of at most this area cover `all`.
-    pub fn log2_to(self, all: AreaSb) -> u8
-        ensures { λ r. ⌜ r ≡ tileLog2 (max 1 (self .0)) (min (all .0) 1048576) ⌝ }
+    // The least logarithm by which tiles of at most this area cover `area`.
+    pub fn log2_to(self, area: AreaSb) -> u8
+        ensures { λ r. ⌜ r ≡ tileLog2 (max 1 (self .0)) (min (area .0) 1048576) ⌝ }
     {
-        held_log2(self.0, all.0)
+        held_log2(self.0, area.0)
     }
 
     // The most superblocks that a row may have, beside a column of `widest_tile`, by the area divided by 2 ^ log2; 1 at least.

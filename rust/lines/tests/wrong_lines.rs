@@ -17,7 +17,7 @@ struct Place {
 const FILL: Place = Place {
     krate: "tile_info",
     file: "uniform.rt",
-    behind: "put(&mut at, i, sbx.in_frame(pair));",
+    behind: "put_start(&mut at, i, sbx.in_frame(pair));",
 };
 
 /// Where a row of superblocks is split: `fsb` and `ssb` count the sequence's and `end` the frame's.
@@ -38,14 +38,14 @@ const SIZES: Place = Place {
 const DOUBLED: Place = Place {
     krate: "frame_hdr",
     file: "reuse.rt",
-    behind: "put(&mut at, i, starts.start(i).in_frame(pair));",
+    behind: "put_start(&mut at, i, starts.start(i).in_frame(pair));",
 };
 
 /// Where a reused layout is closed: `closing` counts the frame's superblocks.
 const CLOSED: Place = Place {
     krate: "frame_hdr",
     file: "reuse.rt",
-    behind: "put(&mut at, tiles, closing);",
+    behind: "put_start(&mut at, tiles, closing);",
 };
 
 /// Where the frame's counts are compared with the sequence's.
@@ -200,7 +200,7 @@ const LINES: &[(&Place, &str, &str)] = &[
     ),
     (
         &DOUBLED,
-        "put(&mut at, i, starts.start(i));",
+        "put_start(&mut at, i, starts.start(i));",
         "error[mismatched-types]: expected FrameSb, found SeqSb",
     ),
     (

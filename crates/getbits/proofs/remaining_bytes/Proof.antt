@@ -10,5 +10,8 @@ sub-result c =
     let a = c .before .before .args in
     omega (arith, c .byte-pos .ensures, byte-pos-le (a .s .now) (a .p))
 
+returns : tie.Need-returns
+returns c = search needs
+
 pub remaining-bytes-spec : {M : Type 1} → statement M
-remaining-bytes-spec = tie.close (tie.spec (λ c κs. search needs) sub-result (λ c. search needs))
+remaining-bytes-spec = tie.close (tie.spec (λ c κs. search needs) sub-result returns)
