@@ -15,7 +15,7 @@ use Rattle.lent.specs.Lent.{isSet, placeOf, lentPlace}
 use Rattle.seg_info.specs.Seg.{parseSegInfo}
 use Rattle.tile_layout.specs.Layout.{parseTileInfo}
 use Rattle.tile_layout.specs.declared.TileArgs.{TileArgs}
-use Rattle.frame_hdr.specs.Frame.{isFrameType, isPresence, parseTileInfoFrmhdr}
+use Rattle.frame_hdr.specs.Frame.{isFrameType, frameTypeOf, isPresence, presentOf, parseTileInfoFrmhdr}
 use Rattle.frame_hdr.specs.declared.FrameHeader.{FrameHeader}
 use Rattle.frame_hdr.specs.declared.SeqLayout.{SeqLayout}
 use Rattle.rectangles.specs.Rectangles.{rectanglesAnswer}
@@ -59,6 +59,16 @@ lentHeader s position error strict hdr b =
 -- is each of the two numbers one of them?
 abbrev pub isKnown : ℕ → ℕ → Bool
 isKnown type present = isFrameType type && isPresence present
+
+-- the frame that a call is given: its type's number, its size, its code and its layout
+abbrev pub frameGiven : ℕ → ℤ → ℤ → ℕ → Buffers → FrameHeader
+frameGiven type width height code b =
+    record { «frame_type» = frameTypeOf type; width = width; height = height; sb128 = code; tiling = layoutIn b }
+
+-- what it is given of the sequence: its code, its greatest size, its level and tier, the number of the layout's presence, and the layout
+abbrev pub seqGiven : ℕ → ℤ → ℤ → ℕ → ℕ → ℕ → Buffers → SeqLayout
+seqGiven code width height level tier present b =
+    record { sb128 = code; «max_width» = width; «max_height» = height; level = level; tier = tier; present = presentOf present; t = layoutIn b }
 
 -- parse_tile_info_frmhdr over the buffers of the frame's layout and of the sequence's: after a refusal the frame's code and buffers are what they were
 unfoldable pub lentFrame : List ℕ → ℕ → ℕ → Buffers → Buffers → Bool → FrameHeader → SeqLayout → List ℕ × ℕ × Buffers

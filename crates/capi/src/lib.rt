@@ -7,12 +7,12 @@ ghost use lib.IntN.{pos};
 ghost use lib.ListN.{length, replicate, drop};
 ghost use Rattle.answers.specs.Numbers.{numberOf};
 ghost use Rattle.flat.specs.Layout.{buffers, hasRoom, layoutIn};
-ghost use Rattle.frame_hdr.specs.Frame.{frameTypeOf, presentOf, FreshDemand3};
+ghost use Rattle.frame_hdr.specs.Frame.{FreshDemand3};
 ghost use Rattle.lent.specs.Lent.{placeOf};
 ghost use Rattle.rectangles.specs.Rectangles.{Outcome};
 ghost use Rattle.tile_layout.specs.Demand3.{Demand3};
 ghost use Rattle.tile_layout.specs.Limits.{argsOf, inDomain};
-ghost use Rattle.capi.specs.Calls.{lentSegInfo, lentTileInfo, lentHeader, isKnown, lentFrame, lentRectangles};
+ghost use Rattle.capi.specs.Calls.{lentSegInfo, lentTileInfo, lentHeader, isKnown, frameGiven, seqGiven, lentFrame, lentRectangles};
 ghost use Rattle.capi.specs.Promises.{tilesLeft, frameLeft, HeaderLeft};
 use answers::is_refusal;
 use answers::number;
@@ -92,14 +92,21 @@ pub extern "C" fn mubanlig_parse_tile_info(
     level: u8,
     tier: u8,
 ) -> u32
-    ensures { λ r. ⌜ ((r ∷ now (position .exit) ∷ now (error .exit) ∷ []), buffers (now (info .exit)) (now («col_start_sb» .exit)) (now («row_start_sb» .exit)))
-        ≡ lentTileInfo (now (s .entry)) (now (position .entry)) (now (error .entry)) (buffers (now (info .entry)) (now («col_start_sb» .entry)) (now («row_start_sb» .entry))) (argsOf sbmul sb128 «seq_sb128» w h level tier) ⌝ }
+    ensures { λ r.
+        let before = buffers (now (info .entry)) (now («col_start_sb» .entry)) (now («row_start_sb» .entry)) in
+        let after = buffers (now (info .exit)) (now («col_start_sb» .exit)) (now («row_start_sb» .exit)) in
+        ⌜ ((r ∷ now (position .exit) ∷ now (error .exit) ∷ []), after)
+        ≡ lentTileInfo (now (s .entry)) (now (position .entry)) (now (error .entry)) before (argsOf sbmul sb128 «seq_sb128» w h level tier) ⌝ }
     ensures { λ r. ⌜ ((r ≡ 0 → ⊥) → now (info .exit) ≡ now (info .entry)) ⌝ }
     ensures { λ r. ⌜ ((r ≡ 0 → ⊥) → now («col_start_sb» .exit) ≡ now («col_start_sb» .entry)) ⌝ }
     ensures { λ r. ⌜ ((r ≡ 0 → ⊥) → now («row_start_sb» .exit) ≡ now («row_start_sb» .entry)) ⌝ }
-    ensures { λ r. ⌜ (hasRoom (buffers (now (info .entry)) (now («col_start_sb» .entry)) (now («row_start_sb» .entry))) ≡ true
-        → inDomain (argsOf sbmul sb128 «seq_sb128» w h level tier) ≡ true
-        → Demand3 (now (s .entry)) (placeOf (now (position .entry)) (now (error .entry))) (argsOf sbmul sb128 «seq_sb128» w h level tier) (tilesLeft r (buffers (now (info .exit)) (now («col_start_sb» .exit)) (now («row_start_sb» .exit))) (placeOf (now (position .exit)) (now (error .exit))))) ⌝ }
+    ensures { λ r.
+        let before = buffers (now (info .entry)) (now («col_start_sb» .entry)) (now («row_start_sb» .entry)) in
+        let after = buffers (now (info .exit)) (now («col_start_sb» .exit)) (now («row_start_sb» .exit)) in
+        let args = argsOf sbmul sb128 «seq_sb128» w h level tier in
+        ⌜ (hasRoom before ≡ true → inDomain args ≡ true
+        → Demand3 (now (s .entry)) (placeOf (now (position .entry)) (now (error .entry))) args
+        (tilesLeft r after (placeOf (now (position .exit)) (now (error .exit))))) ⌝ }
 {
     if !has_room(&*info, &*col_start_sb, &*row_start_sb) {
         return 5;
@@ -127,8 +134,11 @@ pub extern "C" fn mubanlig_parse_seq_hdr(
     col_start_sb: &mut [u16],
     row_start_sb: &mut [u16],
 ) -> u32
-    ensures { λ r. ⌜ ((r ∷ now (position .exit) ∷ now (error .exit) ∷ []), now (hdr .exit), buffers (now (info .exit)) (now («col_start_sb» .exit)) (now («row_start_sb» .exit)))
-        ≡ lentHeader (now (s .entry)) (now (position .entry)) (now (error .entry)) strict (now (hdr .entry)) (buffers (now (info .entry)) (now («col_start_sb» .entry)) (now («row_start_sb» .entry))) ⌝ }
+    ensures { λ r.
+        let before = buffers (now (info .entry)) (now («col_start_sb» .entry)) (now («row_start_sb» .entry)) in
+        let after = buffers (now (info .exit)) (now («col_start_sb» .exit)) (now («row_start_sb» .exit)) in
+        ⌜ ((r ∷ now (position .exit) ∷ now (error .exit) ∷ []), now (hdr .exit), after)
+        ≡ lentHeader (now (s .entry)) (now (position .entry)) (now (error .entry)) strict (now (hdr .entry)) before ⌝ }
     ensures { λ r. ⌜ (r ≡ 5 → now (hdr .exit) ≡ now (hdr .entry)) ⌝ }
     ensures { λ r. ⌜ (r ≡ 5 → now (info .exit) ≡ now (info .entry)) ⌝ }
     ensures { λ r. ⌜ (r ≡ 5 → now («col_start_sb» .exit) ≡ now («col_start_sb» .entry)) ⌝ }
@@ -137,7 +147,9 @@ pub extern "C" fn mubanlig_parse_seq_hdr(
     ensures { λ r. ⌜ (1 ≤ r → r ≤ 3 → now (info .exit) ≡ replicate 9 0 ++ drop 9 (now (info .entry))) ⌝ }
     ensures { λ r. ⌜ (1 ≤ r → r ≤ 3 → now («col_start_sb» .exit) ≡ replicate 65 0 ++ drop 65 (now («col_start_sb» .entry))) ⌝ }
     ensures { λ r. ⌜ (1 ≤ r → r ≤ 3 → now («row_start_sb» .exit) ≡ replicate 65 0 ++ drop 65 (now («row_start_sb» .entry))) ⌝ }
-    ensures { λ r. ⌜ ((r ≡ 5 → ⊥) → HeaderLeft (now (s .entry)) (placeOf (now (position .entry)) (now (error .entry))) r (buffers (now (info .exit)) (now («col_start_sb» .exit)) (now («row_start_sb» .exit)))) ⌝ }
+    ensures { λ r.
+        let after = buffers (now (info .exit)) (now («col_start_sb» .exit)) (now («row_start_sb» .exit)) in
+        ⌜ ((r ≡ 5 → ⊥) → HeaderLeft (now (s .entry)) (placeOf (now (position .entry)) (now (error .entry))) r after) ⌝ }
 {
     if hdr.len() < 146 {
         return 5;
@@ -165,6 +177,54 @@ fn is_known(frame_type: u8, present: u8) -> bool
     (frame_type <= 3) & (present <= 2)
 }
 
+fn frame_given(
+    frame_type: u8,
+    width: i32,
+    height: i32,
+    sb128: u8,
+    info: &[u8],
+    cols: &[u16],
+    rows: &[u16],
+) -> FrameHeader
+    ensures { λ r. ⌜ r ≡ frameGiven «frame_type» width height sb128 (buffers (now (info .entry)) (now (cols .entry)) (now (rows .entry))) ⌝ }
+{
+    let frame_type = frame_type_of(frame_type);
+    let tiling = tile_info_of(info, cols, rows);
+    FrameHeader {
+        frame_type,
+        width,
+        height,
+        sb128,
+        tiling,
+    }
+}
+
+fn seq_given(
+    sb128: u8,
+    max_width: i32,
+    max_height: i32,
+    level: u8,
+    tier: u8,
+    present: u8,
+    info: &[u8],
+    cols: &[u16],
+    rows: &[u16],
+) -> SeqLayout
+    ensures { λ r. ⌜ r ≡ seqGiven sb128 «max_width» «max_height» level tier present (buffers (now (info .entry)) (now (cols .entry)) (now (rows .entry))) ⌝ }
+{
+    let present = present_of(present);
+    let t = tile_info_of(info, cols, rows);
+    SeqLayout {
+        sb128,
+        max_width,
+        max_height,
+        level,
+        tier,
+        present,
+        t,
+    }
+}
+
 #[no_mangle]
 pub extern "C" fn mubanlig_parse_tile_info_frmhdr(
     s: &[u8],
@@ -187,22 +247,27 @@ pub extern "C" fn mubanlig_parse_tile_info_frmhdr(
     seq_col_start_sb: &[u16],
     seq_row_start_sb: &[u16],
 ) -> u32
-    ensures { λ r. ⌜ ((r ∷ now (position .exit) ∷ now (error .exit) ∷ []), now (sb128 .exit), buffers (now (info .exit)) (now («col_start_sb» .exit)) (now («row_start_sb» .exit)))
-        ≡ lentFrame (now (s .entry)) (now (position .entry)) (now (error .entry)) (buffers (now (info .entry)) (now («col_start_sb» .entry)) (now («row_start_sb» .entry)))
-        (buffers (now («seq_info» .entry)) (now («seq_col_start_sb» .entry)) (now («seq_row_start_sb» .entry))) (isKnown «frame_type» present)
-        (record { «frame_type» = frameTypeOf «frame_type»; width = width; height = height; sb128 = now (sb128 .entry); tiling = layoutIn (buffers (now (info .entry)) (now («col_start_sb» .entry)) (now («row_start_sb» .entry))) })
-        (record { sb128 = «seq_sb128»; «max_width» = «max_width»; «max_height» = «max_height»; level = level; tier = tier; present = presentOf present; t = layoutIn (buffers (now («seq_info» .entry)) (now («seq_col_start_sb» .entry)) (now («seq_row_start_sb» .entry))) }) ⌝ }
+    ensures { λ r.
+        let before = buffers (now (info .entry)) (now («col_start_sb» .entry)) (now («row_start_sb» .entry)) in
+        let after = buffers (now (info .exit)) (now («col_start_sb» .exit)) (now («row_start_sb» .exit)) in
+        let seq-before = buffers (now («seq_info» .entry)) (now («seq_col_start_sb» .entry)) (now («seq_row_start_sb» .entry)) in
+        let hdr = frameGiven «frame_type» width height (now (sb128 .entry)) before in
+        let seq = seqGiven «seq_sb128» «max_width» «max_height» level tier present seq-before in
+        ⌜ ((r ∷ now (position .exit) ∷ now (error .exit) ∷ []), now (sb128 .exit), after)
+        ≡ lentFrame (now (s .entry)) (now (position .entry)) (now (error .entry)) before seq-before (isKnown «frame_type» present) hdr seq ⌝ }
     ensures { λ r. ⌜ ((r ≡ 0 → ⊥) → now (sb128 .exit) ≡ now (sb128 .entry)) ⌝ }
     ensures { λ r. ⌜ ((r ≡ 0 → ⊥) → now (info .exit) ≡ now (info .entry)) ⌝ }
     ensures { λ r. ⌜ ((r ≡ 0 → ⊥) → now («col_start_sb» .exit) ≡ now («col_start_sb» .entry)) ⌝ }
     ensures { λ r. ⌜ ((r ≡ 0 → ⊥) → now («row_start_sb» .exit) ≡ now («row_start_sb» .entry)) ⌝ }
-    ensures { λ r. ⌜ (hasRoom (buffers (now (info .entry)) (now («col_start_sb» .entry)) (now («row_start_sb» .entry))) && hasRoom (buffers (now («seq_info» .entry)) (now («seq_col_start_sb» .entry)) (now («seq_row_start_sb» .entry))) ≡ true
-        → isKnown «frame_type» present ≡ true
-        → FreshDemand3 (now (s .entry)) (placeOf (now (position .entry)) (now (error .entry)))
-        (record { «frame_type» = frameTypeOf «frame_type»; width = width; height = height; sb128 = now (sb128 .entry); tiling = layoutIn (buffers (now (info .entry)) (now («col_start_sb» .entry)) (now («row_start_sb» .entry))) })
-        (record { sb128 = «seq_sb128»; «max_width» = «max_width»; «max_height» = «max_height»; level = level; tier = tier; present = presentOf present; t = layoutIn (buffers (now («seq_info» .entry)) (now («seq_col_start_sb» .entry)) (now («seq_row_start_sb» .entry))) })
-        (frameLeft (record { «frame_type» = frameTypeOf «frame_type»; width = width; height = height; sb128 = now (sb128 .entry); tiling = layoutIn (buffers (now (info .entry)) (now («col_start_sb» .entry)) (now («row_start_sb» .entry))) })
-        r (now (sb128 .exit)) (buffers (now (info .exit)) (now («col_start_sb» .exit)) (now («row_start_sb» .exit))) (placeOf (now (position .exit)) (now (error .exit))))) ⌝ }
+    ensures { λ r.
+        let before = buffers (now (info .entry)) (now («col_start_sb» .entry)) (now («row_start_sb» .entry)) in
+        let after = buffers (now (info .exit)) (now («col_start_sb» .exit)) (now («row_start_sb» .exit)) in
+        let seq-before = buffers (now («seq_info» .entry)) (now («seq_col_start_sb» .entry)) (now («seq_row_start_sb» .entry)) in
+        let hdr = frameGiven «frame_type» width height (now (sb128 .entry)) before in
+        let seq = seqGiven «seq_sb128» «max_width» «max_height» level tier present seq-before in
+        ⌜ (hasRoom before && hasRoom seq-before ≡ true → isKnown «frame_type» present ≡ true
+        → FreshDemand3 (now (s .entry)) (placeOf (now (position .entry)) (now (error .entry))) hdr seq
+        (frameLeft hdr r (now (sb128 .exit)) after (placeOf (now (position .exit)) (now (error .exit))))) ⌝ }
 {
     if !has_room(&*info, &*col_start_sb, &*row_start_sb) {
         return 5;
@@ -217,26 +282,26 @@ pub extern "C" fn mubanlig_parse_tile_info_frmhdr(
         put_place(here.next, &mut *position, &mut *error);
         return 4;
     }
-    let frame_type = frame_type_of(frame_type);
-    let present = present_of(present);
-    let t = tile_info_of(seq_info, seq_col_start_sb, seq_row_start_sb);
-    let seq = SeqLayout {
-        sb128: seq_sb128,
+    let hdr = frame_given(
+        frame_type,
+        width,
+        height,
+        *sb128,
+        &*info,
+        &*col_start_sb,
+        &*row_start_sb,
+    );
+    let seq = seq_given(
+        seq_sb128,
         max_width,
         max_height,
         level,
         tier,
         present,
-        t,
-    };
-    let tiles = tile_info_of(&*info, &*col_start_sb, &*row_start_sb);
-    let hdr = FrameHeader {
-        frame_type,
-        width,
-        height,
-        sb128: *sb128,
-        tiling: tiles,
-    };
+        seq_info,
+        seq_col_start_sb,
+        seq_row_start_sb,
+    );
     let r = frame_layout(s, p, hdr, seq);
     let answer = r.answer;
     let read = r.hdr;
@@ -262,9 +327,12 @@ pub extern "C" fn mubanlig_tile_rectangles(
     sb128: u8,
     out: &mut [u32],
 ) -> u32
-    ensures { λ r. ⌜ r ≡ numberOf (lentRectangles (buffers (now (info .entry)) (now («col_start_sb» .entry)) (now («row_start_sb» .entry))) sb128 (length (now (out .entry)))) ⌝ }
-    ensures { λ _. ⌜ Outcome (layoutIn (buffers (now (info .entry)) (now («col_start_sb» .entry)) (now («row_start_sb» .entry)))) sb128
-        (lentRectangles (buffers (now (info .entry)) (now («col_start_sb» .entry)) (now («row_start_sb» .entry))) sb128 (length (now (out .entry)))) (now (out .entry)) (now (out .exit)) ⌝ }
+    ensures { λ r.
+        let before = buffers (now (info .entry)) (now («col_start_sb» .entry)) (now («row_start_sb» .entry)) in
+        ⌜ r ≡ numberOf (lentRectangles before sb128 (length (now (out .entry)))) ⌝ }
+    ensures { λ _.
+        let before = buffers (now (info .entry)) (now («col_start_sb» .entry)) (now («row_start_sb» .entry)) in
+        ⌜ Outcome (layoutIn before) sb128 (lentRectangles before sb128 (length (now (out .entry)))) (now (out .entry)) (now (out .exit)) ⌝ }
     ensures { λ r. ⌜ ((r ≡ 0 → ⊥) → now (out .exit) ≡ now (out .entry)) ⌝ }
 {
     if !has_room(info, col_start_sb, row_start_sb) {

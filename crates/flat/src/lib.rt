@@ -42,7 +42,8 @@ fn put_layout_bytes(t: TileInfo, info: &mut [u8])
 }
 
 pub fn put_tile_info(t: TileInfo, info: &mut [u8], cols: &mut [u16], rows: &mut [u16])
-    ensures { λ _. ⌜ buffers (now (info .exit)) (now (cols .exit)) (now (rows .exit)) ≡ putLayout t (buffers (now (info .entry)) (now (cols .entry)) (now (rows .entry))) ⌝ }
+    ensures { λ _. ⌜ buffers (now (info .exit)) (now (cols .exit)) (now (rows .exit))
+        ≡ putLayout t (buffers (now (info .entry)) (now (cols .entry)) (now (rows .entry))) ⌝ }
     ensures { λ _. ⌜ (hasRoom (buffers (now (info .entry)) (now (cols .entry)) (now (rows .entry))) ≡ true
         → layoutIn (buffers (now (info .exit)) (now (cols .exit)) (now (rows .exit))) ≡ t) ⌝ }
 {

@@ -41,7 +41,8 @@ isOff Off = true
 isOff On = false
 isOff Adaptive = false
 
--- a sequence record is usable when its code is at most 2, its maximum sizes, level and tier are in the domain and, unless tiling is Off, its columns and rows are usable
+-- a sequence record is usable when its code is at most 2, its maximum sizes, level and tier are in the domain and, unless tiling is Off,
+-- its columns and rows are usable
 unfoldable pub usable : SeqLayout → Bool
 usable q =
     leb (q .sb128) 2
@@ -49,7 +50,8 @@ usable q =
     && isSize (unsigned (q .«max_height»))
     && leb (q .level) 31
     && leb (q .tier) 1
-    && (isOff (q .present) || (usableTiles (q .t .cols) (q .t .«log2_cols») (q .t .«col_start_sb») && usableTiles (q .t .rows) (q .t .«log2_rows») (q .t .«row_start_sb»)))
+    && (isOff (q .present)
+    || (usableTiles (q .t .cols) (q .t .«log2_cols») (q .t .«col_start_sb») && usableTiles (q .t .rows) (q .t .«log2_rows») (q .t .«row_start_sb»)))
 
 -- are all arguments in the domain, and the sequence record usable?
 unfoldable pub inFrameDomain : FrameHeader → SeqLayout → Bool
@@ -102,7 +104,8 @@ seqSbw q = superblocks (unsigned (q .«max_width»)) (q .sb128)
 abbrev pub seqSbh : SeqLayout → ℕ
 seqSbh q = superblocks (unsigned (q .«max_height»)) (q .sb128)
 
--- a non-uniform layout fits if the sequence's counts equal the frame's. For the pair (1,2) these are counts of superblocks of two sizes: they are compared all the same, as in the Rust
+-- a non-uniform layout fits if the sequence's counts equal the frame's. For the pair (1,2) these are counts of superblocks of two sizes: they
+-- are compared all the same, as in the Rust
 unfoldable pub sameCounts : TileArgs → SeqLayout → Bool
 sameCounts a q = eqb (seqSbw q) (sbw a) && eqb (seqSbh q) (sbh a)
 
@@ -160,7 +163,8 @@ freshLayout s p h a =
     then (parseTileInfo s p (h .tiling) a) λ z.
     record { answer = z .answer; hdr = pick (isRefusal (z .answer)) h (withLayout h (a .«frame_code») (z .info)); next = z .next }
 
--- parse_tile_info_frmhdr: are all arguments in the domain, and the sequence record usable? No: 4, no bit used. Is the sequence's layout reused? No: one is read
+-- parse_tile_info_frmhdr: are all arguments in the domain, and the sequence record usable? No: 4, no bit used. Is the sequence's layout
+-- reused? No: one is read
 unfoldable pub parseTileInfoFrmhdr : List ℕ → Place → FrameHeader → SeqLayout → FrameRead
 parseTileInfoFrmhdr s p h q =
     pick (inFrameDomain h q)

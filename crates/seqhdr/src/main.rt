@@ -269,7 +269,8 @@ fn put_fields(out: &mut [u8], at: usize, xs: &[i64]) -> usize
 
 // A name and 65 starts.
 fn put_starts(out: &mut [u8], at: usize, name: &[u8], starts: &[u16; 65]) -> usize
-    ensures { λ r. ⌜ Put (length (now (name .entry)) + 1366) (now (out .entry)) at (now (name .entry) ++ startsText (now (starts .entry)) 65) (now (out .exit)) r ⌝ }
+    ensures { λ r. ⌜ Put (length (now (name .entry)) + 1366) (now (out .entry)) at
+        (now (name .entry) ++ startsText (now (starts .entry)) 65) (now (out .exit)) r ⌝ }
 {
     let next = put_word(out, at, name);
     put_row(out, next, starts, 65)

@@ -1,5 +1,6 @@
-// Counts of superblocks, of the sequence's size and of the frame's, as two types. No function adds the one to the other: `in_frame` alone turns the one
-// into the other, by the multiplier of the pair of codes, and `same_number` alone compares the two as they are. Every function has an answer for every argument.
+// Counts of superblocks, of the sequence's size and of the frame's, as two types. No function adds the one to the other: `in_frame` alone turns
+// the one into the other, by the multiplier of the pair of codes, and `same_number` alone compares the two as they are. Every function has an
+// answer for every argument.
 ghost use mathlib.Core.Path.{_≡_};
 ghost use Prim.Native.Nat.{_+_, _-_, _*_, _/_, _%_, _^_, _≤_, min, max};
 ghost use lib.Dec.{ltb, eqb};
@@ -392,7 +393,8 @@ pub fn read_size(s: &[u8], p: Place, rest: FrameSb, limit: FrameSb) -> TileSize
 
 // The even split of fsb full superblocks, of ssb in all, by a logarithm below 32.
 pub fn even_split(fsb: SeqSb, ssb: SeqSb, log2: u8) -> Split
-    ensures { λ r. ⌜ (r .tile .0 ≡ base (fsb .0) (log2 % 32)) × (r .tiles .0 ≡ count (fsb .0) (ssb .0) (log2 % 32)) × (r .extra .0 ≡ larger (fsb .0) (ssb .0) (log2 % 32)) ⌝ }
+    ensures { λ r. ⌜ (r .tile .0 ≡ base (fsb .0) (log2 % 32)) × (r .tiles .0 ≡ count (fsb .0) (ssb .0) (log2 % 32))
+        × (r .extra .0 ≡ larger (fsb .0) (ssb .0) (log2 % 32)) ⌝ }
 {
     let max_tiles = power(log2 as u32);
     let tile = SeqSb(fsb.0 / max_tiles);

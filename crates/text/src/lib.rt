@@ -91,7 +91,8 @@ fn put_nexts(out: &mut [u8], at: usize, xs: &[u64]) -> usize
 
 // A line: a word, then numbers, a blank in front of each.
 pub fn put_line(out: &mut [u8], at: usize, word: &[u8], xs: &[u64]) -> usize
-    ensures { λ r. ⌜ Put (length (now (word .entry)) + (21 * length (now (xs .entry)) + 1)) (now (out .entry)) at (line (now (word .entry) ++ nexts (now (xs .entry)))) (now (out .exit)) r ⌝ }
+    ensures { λ r. ⌜ Put (length (now (word .entry)) + (21 * length (now (xs .entry)) + 1)) (now (out .entry)) at
+        (line (now (word .entry) ++ nexts (now (xs .entry)))) (now (out .exit)) r ⌝ }
 {
     let mut next = put_word(out, at, word);
     next = put_nexts(out, next, xs);
@@ -172,7 +173,8 @@ fn used_by(c: u8) -> usize
 
 // A template with its # replaced by the numbers from the `first` on.
 pub fn put_filled(out: &mut [u8], at: usize, template: &[u8], xs: &[i64], first: usize) -> usize
-    ensures { λ r. ⌜ Put (21 * length (now (template .entry))) (now (out .entry)) at (filled (now (template .entry)) (now (xs .entry)) first) (now (out .exit)) r ⌝ }
+    ensures { λ r. ⌜ Put (21 * length (now (template .entry))) (now (out .entry)) at
+        (filled (now (template .entry)) (now (xs .entry)) first) (now (out .exit)) r ⌝ }
 {
     let mut next = at;
     let mut i = 0;

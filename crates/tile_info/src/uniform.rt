@@ -48,7 +48,9 @@ pub struct Starts {
 // The starts of an even split, and the closing entry.
 fn fill(starts: [u16; 65], pair: Pair, split: Split, end: FrameSb) -> [u16; 65]
     requires { ⌜ (split .tiles .0 ≤ 64) × (split .tile .0 * split .tiles .0 + split .extra .0 ≤ 1024) × (end .0 ≤ 1024) ⌝ }
-    ensures { λ r. ⌜ r ≡ over (tabulate (λ i. multiplierOf (pair .«frame_code») (pair .«seq_code») * (split .tile .0 * i + min i (split .extra .0))) 0 (split .tiles .0) ++ (end .0 ∷ [])) starts ⌝ }
+    ensures { λ r.
+        let multiplier = multiplierOf (pair .«frame_code») (pair .«seq_code») in
+        ⌜ r ≡ over (tabulate (λ i. multiplier * (split .tile .0 * i + min i (split .extra .0))) 0 (split .tiles .0) ++ (end .0 ∷ [])) starts ⌝ }
 {
     let mut at = starts;
     let mut sbx = SeqSb::none();

@@ -14,11 +14,11 @@ use Rattle.getbits.specs.declared.Number.{Number}
 use Rattle.getbits.specs.declared.Place.{Place}
 use Rattle.lent.specs.Lent.{placeOf}
 use Rattle.frame_hdr.proofs.Fresh.{fresh-demand-3}
-use Rattle.frame_hdr.specs.Frame.{FreshDemand3, frameTypeOf, presentOf, parseTileInfoFrmhdr}
+use Rattle.frame_hdr.specs.Frame.{FreshDemand3, parseTileInfoFrmhdr}
 use Rattle.frame_hdr.specs.declared.FrameHeader.{FrameHeader}
 use Rattle.frame_hdr.specs.declared.SeqLayout.{SeqLayout}
-use Rattle.flat.specs.Layout.{Buffers, buffers, hasRoom, putLayout, layoutIn}
-use Rattle.capi.specs.Calls.{answered, isKnown, lentFrame}
+use Rattle.flat.specs.Layout.{Buffers, buffers, hasRoom, putLayout}
+use Rattle.capi.specs.Calls.{answered, isKnown, frameGiven, seqGiven, lentFrame}
 use Rattle.capi.proofs.Left.{row, triple, first-fails, second-fails, both-hold, contrary, accepted-0, demand3-left}
 use Rattle.capi.proofs.mubanlig_parse_tile_info_frmhdr.Statement.{statement}
 use Rattle.capi.proofs.mubanlig_parse_tile_info_frmhdr.Tie as tie
@@ -31,25 +31,17 @@ abbrev theirs : tie.Start → Buffers
 theirs s = buffers (s .args .seq-info .now) (s .args .seq-col-start-sb .now) (s .args .seq-row-start-sb .now)
 
 abbrev header : tie.Start → FrameHeader
-header s = record { «frame_type» = frameTypeOf (s .args .frame-type); width = s .args .width; height = s .args .height; sb128 = s .args .sb128 .now; tiling = layoutIn (own s) }
+header s = frameGiven (s .args .frame-type) (s .args .width) (s .args .height) (s .args .sb128 .now) (own s)
 
 abbrev sequence : tie.Start → SeqLayout
 sequence s =
-    record {
-      sb128 = s .args .seq-sb128;
-      «max_width» = s .args .max-width;
-      «max_height» = s .args .max-height;
-      level = s .args .level;
-      tier = s .args .tier;
-      present = presentOf (s .args .present);
-      t = layoutIn (theirs s);
-    }
+    seqGiven (s .args .seq-sb128) (s .args .max-width) (s .args .max-height) (s .args .level) (s .args .tier) (s .args .present) (theirs s)
 
 abbrev place : tie.Start → Place
 place s = placeOf (s .args .position .now) (s .args .error .now)
 
 abbrev start : tie.After-frame-layout → tie.Start
-start k = k .before .before .before .before .before .before .before .before .before .before .before .before .before .before .before .before .before .before .before .before .before .before .before .before .before .before .before .before
+start k = k .before .before .before .before .before .before .before .before .before .before .before .before .before .before .before .before .before .before .before .before .before .before .before .before .before .before
 
 -- the buffers have room
 roomy : (k : tie.Else2) → hasRoom (own (k .before .before .before .before .before .before .before .before .before .before .before .before .before .before)) && hasRoom (theirs (k .before .before .before .before .before .before .before .before .before .before .before .before .before .before)) ≡ true
@@ -60,14 +52,13 @@ roomy k =
 
 known : (k : tie.After-frame-layout) → isKnown (start k .args .frame-type) (start k .args .present) ≡ true
 known k =
-    let e = k .before .before .before .before .before .before .before .before .before in
+    let e = k .before .before .before .before .before .before .before in
     sym (e .before .is-known .ensures) ∙ not-false (e .before .is-known .result) (e .if3 .left)
 
 read : (k : tie.After-frame-layout) → k .frame-layout .result ≡ parseTileInfoFrmhdr (start k .args .s .now) (place (start k)) (header (start k)) (sequence (start k))
 read k =
     let s = start k in
-    let t = k .before .before .before .before .before .before in
-    rw (toZ-ofZ (s .fits .width), toZ-ofZ (s .fits .height), toZ-ofZ (s .fits .max-width), toZ-ofZ (s .fits .max-height), k .before .before .before .before .before .before .before .before .before .before .before .place-of .ensures, k .before .before .tile-info-of2 .ensures, t .tile-info-of .ensures, t .before .present-of .ensures, t .before .before .frame-type-of .ensures) at (k .frame-layout .ensures .0)
+    rw (k .before .before .before .before .before .before .before .before .before .place-of .ensures, k .before .seq-given .ensures, k .before .before .frame-given .ensures, toZ-ofZ (s .fits .width), toZ-ofZ (s .fits .height), toZ-ofZ (s .fits .max-width), toZ-ofZ (s .fits .max-height)) at (k .frame-layout .ensures .0)
 
 demand : (k : tie.After-frame-layout) → FreshDemand3 (start k .args .s .now) (place (start k)) (header (start k)) (sequence (start k)) (k .frame-layout .result)
 demand k =
@@ -83,7 +74,7 @@ meaning : (k : tie.After-frame-layout)
       pick (isRefusal (k .frame-layout .result .answer)) (own (start k)) (putLayout (k .frame-layout .result .hdr .tiling) (own (start k))),
     )
 unfolding lentFrame
-meaning k = taken _ _ _ (roomy (k .before .before .before .before .before .before .before .before .before .before .before .before .before .before)) ∙ taken _ _ _ (known k) ∙ through _ _ (read k)
+meaning k = taken _ _ _ (roomy (k .before .before .before .before .before .before .before .before .before .before .before .before)) ∙ taken _ _ _ (known k) ∙ through _ _ (read k)
 
 returns : tie.Need-returns
 unfolding lentFrame
@@ -140,7 +131,7 @@ returns-5 c =
     let x = k .frame-layout .result in
     let put = t .put-tile-info .ensures in
     let fine : isRefusal (x .answer) ≡ false = sym (e .before .is-refusal .ensures) ∙ e .if4 .left in
-    let room = both (hasRoom (own s)) (hasRoom (theirs s)) (roomy (k .before .before .before .before .before .before .before .before .before .before .before .before .before .before)) .0 in (
+    let room = both (hasRoom (own s)) (hasRoom (theirs s)) (roomy (k .before .before .before .before .before .before .before .before .before .before .before .before)) .0 in (
       triple (row (x .answer) (x .next) (s .args .error .now) (accepted-0 (x .answer) fine) (q .put-place2 .ensures))
           (sym (left (isRefusal (x .answer)) (s .args .sb128 .now) (x .hdr .sb128) fine))
           (put .0 ∙ sym (left (isRefusal (x .answer)) (own s) (putLayout (x .hdr .tiling) (own s)) fine))
@@ -170,8 +161,6 @@ mubanlig-parse-tile-info-frmhdr-spec =
     (λ c. search needs)
     (λ c. search needs)
     returns-3
-    (λ c κs. search needs)
-    (λ c κs. search needs)
     (λ c κs. search needs)
     (λ c κs. search needs)
     (λ c κs. search needs)
