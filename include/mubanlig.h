@@ -1,8 +1,8 @@
 /*
  * Mubanlig: AV2 sequence headers and tile layouts, read by a proved library. For C and C++ on x86-64 Linux.
  *
- * Link libcapi_bits.a (the readings) and libcapi.a (the records), which `rt staticlib capi_bits` and `rt staticlib capi` prove and write.
- * docs/INTERFACE.md says what they promise.
+ * Link libcapi_bits.a (the readings), libcapi.a (the records) and libcapi_within.a (layouts within a limit), which `rt staticlib capi_bits`,
+ * `rt staticlib capi` and `rt staticlib capi_within` prove and write. docs/INTERFACE.md says what they promise.
  *
  * What holds of every call:
  *
@@ -28,7 +28,7 @@
 extern "C" {
 #endif
 
-/* The number of this interface. A library of another one lacks the two functions that have it in their names, and does not link. */
+/* The number of this interface. A library of another one lacks the functions that have it in their names, and does not link. */
 #define MUBANLIG_INTERFACE 2
 
 /* The lengths that buffers must have, in elements. */
@@ -39,6 +39,12 @@ extern "C" {
 #define MUBANLIG_MASKS 3            /* masks */
 #define MUBANLIG_TILE_NUMBERS 4     /* out: so many for each tile */
 
+/* The limits of the viewers, as max_cols and max_rows: those on walls show every layout, a handheld panel shows less. */
+#define MUBANLIG_WALL_COLS 64
+#define MUBANLIG_WALL_ROWS 64
+#define MUBANLIG_PANEL_COLS 16
+#define MUBANLIG_PANEL_ROWS 8
+
 /* What the functions that read a record answer. */
 enum mubanlig_answer {
     MUBANLIG_ACCEPTED = 0,
@@ -46,7 +52,8 @@ enum mubanlig_answer {
     MUBANLIG_INVALID_TILE_INFO = 2,
     MUBANLIG_INVALID_TRAILING_BITS = 3,
     MUBANLIG_WRONG_ARGUMENTS = 4, /* and no bit is used */
-    MUBANLIG_SHORT_BUFFER = 5     /* and nothing that was lent changes, the position neither */
+    MUBANLIG_SHORT_BUFFER = 5,    /* and nothing that was lent changes, the position neither */
+    MUBANLIG_TOO_MANY_TILES = 6   /* more columns or rows than the limit; the bits of the layout are used */
 };
 
 /* The bytes of info. */
@@ -211,9 +218,10 @@ enum mubanlig_hdr {
     MUBANLIG_HDR_FILM_GRAIN_PRESENT = 145
 };
 
-/* Both answer 2. */
+/* The three answer 2. */
 uint32_t mubanlig_bits_interface_2(void);
 uint32_t mubanlig_interface_2(void);
+uint32_t mubanlig_within_interface_2(void);
 
 /*
  * Readings, in libcapi_bits.a. Each answers its value. Data that runs out, or an argument outside the domain, sets the error; most then
@@ -285,6 +293,27 @@ uint32_t mubanlig_parse_tile_info_frmhdr(const uint8_t *s, size_t s_len, size_t 
 uint32_t mubanlig_tile_rectangles(const uint8_t *info, size_t info_len,
     const uint16_t *col_start_sb, size_t col_start_sb_len, const uint16_t *row_start_sb, size_t row_start_sb_len,
     uint8_t sb128, uint32_t *out, size_t out_len);
+
+/*
+ * Layouts within a limit, in libcapi_within.a. max_cols and max_rows are the most columns and rows that are taken: any numbers, as the
+ * wall's or the panel's above. Each reads as the function without a limit, behind whose parameters they stand. A layout that is accepted
+ * there and has more columns or more rows is refused with 6: info, the starts and sb128 stay as they were, and the position and the error
+ * are those after the reading. So 2, 4 and 5 come first.
+ */
+
+/* mubanlig_parse_tile_info within a limit. Answers 0, 2, 4, 5 or 6. */
+uint32_t mubanlig_parse_tile_info_within(const uint8_t *s, size_t s_len, size_t *position, uint8_t *error,
+    uint8_t *info, size_t info_len, uint16_t *col_start_sb, size_t col_start_sb_len, uint16_t *row_start_sb, size_t row_start_sb_len,
+    int32_t sbmul, uint8_t sb128, uint8_t seq_sb128, int32_t w, int32_t h, uint8_t level, uint8_t tier,
+    uint8_t max_cols, uint8_t max_rows);
+/* mubanlig_parse_tile_info_frmhdr within a limit, which is asked of a reused layout too. Answers 0, 2, 4, 5 or 6. */
+uint32_t mubanlig_parse_tile_info_frmhdr_within(const uint8_t *s, size_t s_len, size_t *position, uint8_t *error,
+    uint8_t frame_type, int32_t width, int32_t height, uint8_t *sb128,
+    uint8_t *info, size_t info_len, uint16_t *col_start_sb, size_t col_start_sb_len, uint16_t *row_start_sb, size_t row_start_sb_len,
+    uint8_t seq_sb128, int32_t max_width, int32_t max_height, uint8_t level, uint8_t tier, uint8_t present,
+    const uint8_t *seq_info, size_t seq_info_len,
+    const uint16_t *seq_col_start_sb, size_t seq_col_start_sb_len, const uint16_t *seq_row_start_sb, size_t seq_row_start_sb_len,
+    uint8_t max_cols, uint8_t max_rows);
 
 #ifdef __cplusplus
 }

@@ -1,9 +1,9 @@
--- The numbers of the answers: document 01, "Questions asked, in this order".
+-- The numbers of the answers: document 01, "Questions asked, in this order", and from 6 on the later requests.
 use Prim.Native.Nat.{ℕ}
 use mathlib.Core.Bool.{Bool, true, false}
 use Rattle.answers.specs.declared.Answer.{Answer}
 use Rattle.answers.specs.declared.Answer.the-variants.{Accepted, InvalidSequenceHeader, InvalidTileInfo}
-use Rattle.answers.specs.declared.Answer.the-variants.{InvalidTrailingBits, WrongArguments, ShortBuffer}
+use Rattle.answers.specs.declared.Answer.the-variants.{InvalidTrailingBits, WrongArguments, ShortBuffer, TooManyTiles}
 
 -- 0 is accepted, and each refusal has its number
 abbrev pub numberOf : Answer → ℕ
@@ -13,6 +13,7 @@ numberOf InvalidTileInfo = 2
 numberOf InvalidTrailingBits = 3
 numberOf WrongArguments = 4
 numberOf ShortBuffer = 5
+numberOf TooManyTiles = 6
 
 -- is it a refusal?
 abbrev pub isRefusal : Answer → Bool
@@ -22,3 +23,4 @@ isRefusal InvalidTileInfo = true
 isRefusal InvalidTrailingBits = true
 isRefusal WrongArguments = true
 isRefusal ShortBuffer = true
+isRefusal TooManyTiles = true

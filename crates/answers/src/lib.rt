@@ -9,6 +9,7 @@ pub enum Answer {
     InvalidTrailingBits,
     WrongArguments,
     ShortBuffer,
+    TooManyTiles,
 }
 
 pub fn number(a: Answer) -> u32
@@ -21,6 +22,7 @@ pub fn number(a: Answer) -> u32
         Answer::InvalidTrailingBits => 3,
         Answer::WrongArguments => 4,
         Answer::ShortBuffer => 5,
+        Answer::TooManyTiles => 6,
     }
 }
 
@@ -34,5 +36,6 @@ pub fn is_refusal(a: Answer) -> bool
         Answer::InvalidTrailingBits => true,
         Answer::WrongArguments => true,
         Answer::ShortBuffer => true,
+        Answer::TooManyTiles => true,
     }
 }

@@ -3,33 +3,11 @@ use mathlib.Core.Path.{_≡_}
 use mathlib.Core.Bool.{true}
 use mathlib.Core.List.{List}
 use Prim.Native.Nat.{ℕ}
-use lib.Dec.{eqb}
 use Rattle.answers.specs.Numbers.{isRefusal}
-use Rattle.answers.specs.declared.Answer.{Answer}
-use Rattle.answers.specs.declared.Answer.the-variants.{Accepted, InvalidSequenceHeader, InvalidTileInfo, InvalidTrailingBits, WrongArguments, ShortBuffer}
-use Rattle.getbits.specs.Chain.{pick}
 use Rattle.getbits.specs.declared.Place.{Place}
 use Rattle.tile_layout.specs.Demand3.{Demand3}
-use Rattle.tile_layout.specs.declared.TileRead.{TileRead}
-use Rattle.frame_hdr.specs.Frame.{withLayout}
-use Rattle.frame_hdr.specs.declared.FrameHeader.{FrameHeader}
-use Rattle.frame_hdr.specs.declared.FrameRead.{FrameRead}
 use Rattle.seq_hdr.specs.HeaderLayout.{HasLayout, layoutPlace, layoutArgs, layoutCall}
 use Rattle.flat.specs.Layout.{Buffers, layoutIn}
-
--- the answer that has a number
-abbrev pub answerOf : ℕ → Answer
-answerOf n =
-    pick (eqb n 0) Accepted (pick (eqb n 1) InvalidSequenceHeader (pick (eqb n 2) InvalidTileInfo
-    (pick (eqb n 3) InvalidTrailingBits (pick (eqb n 4) WrongArguments ShortBuffer))))
-
--- the layout that a call leaves
-abbrev pub tilesLeft : ℕ → Buffers → Place → TileRead
-tilesLeft n b p = record { answer = answerOf n; info = layoutIn b; next = p }
-
--- the frame that a call leaves
-abbrev pub frameLeft : FrameHeader → ℕ → ℕ → Buffers → Place → FrameRead
-frameLeft h n code b p = record { answer = answerOf n; hdr = withLayout h code (layoutIn b); next = p }
 
 -- the header's layout that a call leaves
 pub record HeaderLeft (s : List ℕ) (p : Place) (n : ℕ) (b : Buffers) : Type 0 where

@@ -12,9 +12,10 @@ ghost use Rattle.lent.specs.Lent.{placeOf};
 ghost use Rattle.rectangles.specs.Rectangles.{Outcome};
 ghost use Rattle.tile_layout.specs.Demand3.{Demand3};
 ghost use Rattle.tile_layout.specs.Limits.{argsOf, inDomain};
-ghost use Rattle.capi.specs.Calls.{lentSegInfo, lentTileInfo, lentHeader, isKnown, frameGiven, seqGiven, lentFrame, lentRectangles};
-ghost use Rattle.capi.specs.Promises.{tilesLeft, frameLeft, HeaderLeft};
-use answers::is_refusal;
+ghost use Rattle.lent_tiles.specs.Calls.{lentTileInfo, isKnown, frameGiven, seqGiven, lentFrame};
+ghost use Rattle.lent_tiles.specs.Left.{tilesLeft, frameLeft};
+ghost use Rattle.capi.specs.Calls.{lentSegInfo, lentHeader, lentRectangles};
+ghost use Rattle.capi.specs.Promises.{HeaderLeft};
 use answers::number;
 use flat::has_room;
 use flat::put_delta_q;
@@ -23,15 +24,16 @@ use flat::put_tile_info;
 use flat::seg_info_of;
 use flat::tile_info_of;
 use flat_hdr::put_seq_hdr;
-use frame_hdr::FrameHeader;
-use frame_hdr::SeqLayout;
 use frame_hdr::frame_layout;
-use frame_hdr::frame_type_of;
-use frame_hdr::present_of;
 use getbits::read_bits;
 use lent::is_set;
 use lent::place_of;
 use lent::put_place;
+use lent_tiles::frame_given;
+use lent_tiles::hand_back_frame;
+use lent_tiles::hand_back_tiles;
+use lent_tiles::is_known;
+use lent_tiles::seq_given;
 use rectangles::tile_rectangles;
 use seg_info::parse_seg_info;
 use seq_hdr::parse_seq_hdr;
@@ -114,13 +116,14 @@ pub extern "C" fn mubanlig_parse_tile_info(
     let p = place_of(*position, *error);
     let thdr = tile_info_of(&*info, &*col_start_sb, &*row_start_sb);
     let r = parse_tile_info(s, p, thdr, sbmul, sb128, seq_sb128, w, h, level, tier);
-    let answer = r.answer;
-    put_place(r.next, &mut *position, &mut *error);
-    if is_refusal(answer) {
-        return number(answer);
-    }
-    put_tile_info(r.info, &mut *info, &mut *col_start_sb, &mut *row_start_sb);
-    0
+    hand_back_tiles(
+        r,
+        &mut *position,
+        &mut *error,
+        &mut *info,
+        &mut *col_start_sb,
+        &mut *row_start_sb,
+    )
 }
 
 #[no_mangle]
@@ -169,60 +172,6 @@ pub extern "C" fn mubanlig_parse_seq_hdr(
         &mut *row_start_sb,
     );
     number(answer)
-}
-
-fn is_known(frame_type: u8, present: u8) -> bool
-    ensures { λ r. ⌜ r ≡ isKnown «frame_type» present ⌝ }
-{
-    (frame_type <= 3) & (present <= 2)
-}
-
-fn frame_given(
-    frame_type: u8,
-    width: i32,
-    height: i32,
-    sb128: u8,
-    info: &[u8],
-    cols: &[u16],
-    rows: &[u16],
-) -> FrameHeader
-    ensures { λ r. ⌜ r ≡ frameGiven «frame_type» width height sb128 (buffers (now (info .entry)) (now (cols .entry)) (now (rows .entry))) ⌝ }
-{
-    let frame_type = frame_type_of(frame_type);
-    let tiling = tile_info_of(info, cols, rows);
-    FrameHeader {
-        frame_type,
-        width,
-        height,
-        sb128,
-        tiling,
-    }
-}
-
-fn seq_given(
-    sb128: u8,
-    max_width: i32,
-    max_height: i32,
-    level: u8,
-    tier: u8,
-    present: u8,
-    info: &[u8],
-    cols: &[u16],
-    rows: &[u16],
-) -> SeqLayout
-    ensures { λ r. ⌜ r ≡ seqGiven sb128 «max_width» «max_height» level tier present (buffers (now (info .entry)) (now (cols .entry)) (now (rows .entry))) ⌝ }
-{
-    let present = present_of(present);
-    let t = tile_info_of(info, cols, rows);
-    SeqLayout {
-        sb128,
-        max_width,
-        max_height,
-        level,
-        tier,
-        present,
-        t,
-    }
 }
 
 #[no_mangle]
@@ -303,20 +252,15 @@ pub extern "C" fn mubanlig_parse_tile_info_frmhdr(
         seq_row_start_sb,
     );
     let r = frame_layout(s, p, hdr, seq);
-    let answer = r.answer;
-    let read = r.hdr;
-    put_place(r.next, &mut *position, &mut *error);
-    if is_refusal(answer) {
-        return number(answer);
-    }
-    *sb128 = read.sb128;
-    put_tile_info(
-        read.tiling,
+    hand_back_frame(
+        r,
+        &mut *position,
+        &mut *error,
+        &mut *sb128,
         &mut *info,
         &mut *col_start_sb,
         &mut *row_start_sb,
-    );
-    0
+    )
 }
 
 #[no_mangle]

@@ -2,7 +2,7 @@
 ghost use mathlib.Core.Path.{_≡_};
 ghost use mathlib.Core.Bool.{true};
 ghost use Rattle.tile_layout.specs.Limits.{unsigned, inDomain};
-ghost use Rattle.frame_hdr.specs.Frame.{frameTypeOf, presentOf, isInterOrSwitch, frameCode, frameArgs, withLayout, freshLayout, parseTileInfoFrmhdr, FreshDemand3};
+ghost use Rattle.frame_hdr.specs.Frame.{frameTypeOf, presentOf, isInterOrSwitch, frameCode, frameArgs, withLayout, freshLayout, parseTileInfoFrmhdr, frameTiles, FreshDemand3};
 ghost use Rattle.frame_hdr.specs.Sequence.{seqLayout};
 use answers::Answer;
 use answers::is_refusal;
@@ -14,6 +14,7 @@ use superblocks::multiplier_of;
 use tile_info::parse_tile_info;
 use tile_layout::TileArgs;
 use tile_layout::TileInfo;
+use tile_layout::TileRead;
 use tile_layout::not_below_0;
 
 mod domain;
@@ -56,6 +57,17 @@ pub struct FrameRead {
     pub answer: Answer,
     pub hdr: FrameHeader,
     pub next: Place,
+}
+
+// The layout in a frame's answer.
+pub fn frame_tiles(r: FrameRead) -> TileRead
+    ensures { λ x. ⌜ x ≡ frameTiles r ⌝ }
+{
+    let answer = r.answer;
+    let hdr = r.hdr;
+    let info = hdr.tiling;
+    let next = r.next;
+    TileRead { answer, info, next }
 }
 
 // The type with a number.

@@ -26,6 +26,8 @@ use Rattle.seq_record.proofs.SequenceHeader as SQ
 use Rattle.seq_record.proofs.SequenceHeader.Laws as SQ′
 use Rattle.frame_hdr.proofs.FrameHeader as FQ
 use Rattle.frame_hdr.proofs.FrameHeader.Laws as FQ′
+use Rattle.tile_limit.proofs.TileLimit as TL
+use Rattle.tile_limit.proofs.TileLimit.Laws as TL′
 use Rattle.seq_hdr.proofs.SeqRead as SR
 use Rattle.seq_hdr.proofs.SeqRead.Laws as SR′
 use Rattle.frame_hdr.proofs.FrameRead as FR
@@ -53,6 +55,9 @@ seq-header = struct SQ.the-type SQ′.the-laws SQ′.the-copy
 
 abbrev pub frame-header : Param
 frame-header = struct FQ.the-type FQ′.the-laws FQ′.the-copy
+
+abbrev pub tile-limit : Param
+tile-limit = struct TL.the-type TL′.the-laws TL′.the-copy
 
 -- what a header's reading answers by value, and with the reader
 abbrev pub seq-read : Param

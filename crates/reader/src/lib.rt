@@ -7,6 +7,8 @@ ghost use Rattle.seq_hdr.specs.Header.{parseSeqHdr};
 ghost use Rattle.seq_hdr.specs.HeaderLayout.{HeaderLayout};
 ghost use Rattle.frame_hdr.specs.Frame.{parseTileInfoFrmhdr, FreshDemand3};
 ghost use Rattle.frame_hdr.specs.Sequence.{seqLayout};
+ghost use Rattle.tile_limit.specs.Promises.{LimitedFrame};
+ghost use Rattle.tile_limit.specs.Within.{parseTileInfoFrmhdrWithin};
 ghost use Rattle.reader.specs.Held.{start, readerAt, readOf, seqHdrOf, seqReadOf, frameHdrOf, frameReadOf};
 use answers::Answer;
 use frame_hdr::FrameHeader;
@@ -15,6 +17,7 @@ use getbits::Number;
 use getbits::Place;
 use seq_hdr::SeqRead;
 use seq_record::SequenceHeader;
+use tile_limit::TileLimit;
 
 // The reader holds the lent bytes together with its place in them.
 pub struct GetBits<'a> {
@@ -163,6 +166,21 @@ impl<'a> GetBits<'a> {
         after_frame_hdr(
             self.data,
             frame_hdr::parse_tile_info_frmhdr(self.data, self.at, hdr, seqhdr),
+        )
+    }
+
+    pub fn parse_tile_info_frmhdr_within(
+        self,
+        hdr: FrameHeader,
+        seqhdr: SequenceHeader,
+        limit: TileLimit,
+    ) -> FrameHdrRead<'a>
+        ensures { λ r. ⌜ r ≡ frameHdrOf (self .entry .«data») (parseTileInfoFrmhdrWithin (now (self .entry .«data»)) (self .entry .at) hdr (seqLayout seqhdr) limit) ⌝ }
+        ensures { λ r. ⌜ LimitedFrame (now (self .entry .«data»)) (self .entry .at) hdr (seqLayout seqhdr) limit (frameReadOf r) ⌝ }
+    {
+        after_frame_hdr(
+            self.data,
+            tile_limit::parse_tile_info_frmhdr_within(self.data, self.at, hdr, seqhdr, limit),
         )
     }
 }

@@ -11,8 +11,9 @@ use Rattle.tile_layout.specs.Layout.{rowArea, rowLimit, readCols, readRows, non
 use Rattle.superblocks.specs.Counts.{multiplierOf}
 use Rattle.text.specs.Text.{word, decimal, decimalIn, nexts, row}
 use Rattle.program.specs.Output.{acceptedText, refusedText}
-use Rattle.tile.specs.Request.{tileRequest}
-use Rattle.tile.specs.Print.{tileHeadText, tileLayoutText, tileReadText, tileText}
+use Rattle.tile_request.specs.Request.{tileRequest}
+use Rattle.tile_request.specs.Print.{tileHeadText, tileLayoutText, tileReadText}
+use Rattle.tile.specs.Print.{tileText}
 
 listing : tileText (0xFF ∷ 0x00 ∷ 0x7F ∷ 0x00 ∷ 0 ∷ 0 ∷ 0 ∷ 0 ∷ 0x28 ∷ []) ≡ word "ok N 3 1 5 0\n0 2 3 4\n0 2\n"
 unfolding leadingZeros then turns bitsAt position readBits getBit getBits getFlag runOf getUniform

@@ -20,6 +20,8 @@ use capi_bits::mubanlig_get_uleb128;
 use capi_bits::mubanlig_get_uniform;
 use capi_bits::mubanlig_get_vlc;
 use capi_bits::mubanlig_remaining_bytes;
+use capi_within::mubanlig_parse_tile_info_frmhdr_within;
+use capi_within::mubanlig_parse_tile_info_within;
 use codes::get_uleb128;
 use getbits::Place;
 use libc::STDOUT_FILENO;
@@ -41,8 +43,8 @@ struct RowNumber {
 
 // How many cases of each operation were replayed, and how many agree.
 struct Tally {
-    replayed: [u32; 17],
-    agree: [u32; 17],
+    replayed: [u32; 19],
+    agree: [u32; 19],
 }
 
 struct Verdict {
@@ -286,8 +288,9 @@ fn store_layout(out: &mut [i64], i: usize, info: &[u8], cols: &[u16], rows: &[u1
     store_words(&mut *out, i + 74, rows, 65);
 }
 
-// The layout's buffers are lent as long as the arguments say, and so below.
+// The layout's buffers are lent as long as the arguments say, and so below. A limit stands behind these lengths.
 fn lend_layout(
+    kind: u32,
     s: &[u8],
     position: &mut usize,
     error: &mut u8,
@@ -299,6 +302,25 @@ fn lend_layout(
     let a = held_at(args, 146, info.len());
     let b = held_at(args, 147, cols.len());
     let c = held_at(args, 148, rows.len());
+    if kind == 17 {
+        return mubanlig_parse_tile_info_within(
+            s,
+            &mut *position,
+            &mut *error,
+            &mut info[..a],
+            &mut cols[..b],
+            &mut rows[..c],
+            i32_at(args, 139),
+            u8_at(args, 140),
+            u8_at(args, 141),
+            i32_at(args, 142),
+            i32_at(args, 143),
+            u8_at(args, 144),
+            u8_at(args, 145),
+            u8_at(args, 149),
+            u8_at(args, 150),
+        );
+    }
     mubanlig_parse_tile_info(
         s,
         &mut *position,
@@ -317,6 +339,7 @@ fn lend_layout(
 }
 
 fn replay_layout(
+    kind: u32,
     s: &[u8],
     position: &mut usize,
     error: &mut u8,
@@ -327,6 +350,7 @@ fn replay_layout(
     let mut cols = starts_at(args, 9);
     let mut rows = starts_at(args, 74);
     let answer = lend_layout(
+        kind,
         s,
         &mut *position,
         &mut *error,
@@ -393,6 +417,7 @@ fn replay_header(
 }
 
 fn lend_frame(
+    kind: u32,
     s: &[u8],
     position: &mut usize,
     error: &mut u8,
@@ -411,6 +436,31 @@ fn lend_frame(
     let d = held_at(args, 291, seq_info.len());
     let e = held_at(args, 292, seq_cols.len());
     let f = held_at(args, 293, seq_rows.len());
+    if kind == 18 {
+        return mubanlig_parse_tile_info_frmhdr_within(
+            s,
+            &mut *position,
+            &mut *error,
+            u8_at(args, 0),
+            i32_at(args, 1),
+            i32_at(args, 2),
+            &mut *sb128,
+            &mut info[..a],
+            &mut cols[..b],
+            &mut rows[..c],
+            u8_at(args, 143),
+            i32_at(args, 144),
+            i32_at(args, 145),
+            u8_at(args, 146),
+            u8_at(args, 147),
+            u8_at(args, 148),
+            &seq_info[..d],
+            &seq_cols[..e],
+            &seq_rows[..f],
+            u8_at(args, 294),
+            u8_at(args, 295),
+        );
+    }
     mubanlig_parse_tile_info_frmhdr(
         s,
         &mut *position,
@@ -435,6 +485,7 @@ fn lend_frame(
 }
 
 fn replay_frame(
+    kind: u32,
     s: &[u8],
     position: &mut usize,
     error: &mut u8,
@@ -449,6 +500,7 @@ fn replay_frame(
     let seq_cols = starts_at(args, 158);
     let seq_rows = starts_at(args, 223);
     let answer = lend_frame(
+        kind,
         s,
         &mut *position,
         &mut *error,
@@ -528,7 +580,7 @@ fn lend_rectangles(
             &mut numbers[..len],
         );
     }
-    6
+    255
 }
 
 // The answer, then the numbers lent; how many these are in all.
@@ -591,10 +643,10 @@ fn replay_record(
     out: &mut [i64],
 ) -> u32 {
     match kind {
-        11 => replay_layout(s, &mut *position, &mut *error, args, &mut *out),
         12 => replay_header(s, &mut *position, &mut *error, args, &mut *out),
-        13 => replay_frame(s, &mut *position, &mut *error, args, &mut *out),
-        _ => replay_segments(s, &mut *position, &mut *error, args, &mut *out),
+        14 => replay_segments(s, &mut *position, &mut *error, args, &mut *out),
+        11 | 17 => replay_layout(kind, s, &mut *position, &mut *error, args, &mut *out),
+        _ => replay_frame(kind, s, &mut *position, &mut *error, args, &mut *out),
     }
 }
 
@@ -617,9 +669,9 @@ fn outcome_count(kind: u32) -> usize
     ensures { λ r. ⌜ r ≤ 512 ⌝ }
 {
     match kind {
-        11 => 142,
+        11 | 17 => 142,
         12 => 288,
-        13 => 143,
+        13 | 18 => 143,
         14 => 22,
         _ => 3,
     }
@@ -762,14 +814,14 @@ fn replay(case: &[u8]) -> Verdict {
         }
     }
     Verdict {
-        kind: 17,
+        kind: 19,
         agrees: false,
     }
 }
 
-fn one_more(counts: [u32; 17], i: usize) -> [u32; 17] {
+fn one_more(counts: [u32; 19], i: usize) -> [u32; 19] {
     let mut after = counts;
-    if i < 17 {
+    if i < 19 {
         if counts[i] < 0xffff_ffff {
             after[i] = counts[i] + 1;
         }
@@ -781,7 +833,7 @@ fn counted(t: Tally, v: Verdict) -> Tally {
     let old_replayed = t.replayed;
     let old_agree = t.agree;
     let replayed = one_more(old_replayed, v.kind);
-    let agree = one_more(old_agree, if v.agrees { v.kind } else { 17 });
+    let agree = one_more(old_agree, if v.agrees { v.kind } else { 19 });
     Tally { replayed, agree }
 }
 
@@ -809,7 +861,7 @@ fn replay_first(case: &[u8], size: usize) -> Verdict {
         return replay(&case[..size]);
     }
     Verdict {
-        kind: 17,
+        kind: 19,
         agrees: false,
     }
 }
@@ -847,7 +899,8 @@ fn print(text: &[u8]) {
     io::write_all(STDOUT_FILENO, text);
 }
 
-fn print_name(kind: usize) {
+// The name of a reading.
+fn print_reading(kind: usize) {
     match kind {
         0 => print(b"get_bit"),
         1 => print(b"get_bits"),
@@ -859,13 +912,29 @@ fn print_name(kind: usize) {
         7 => print(b"get_golomb"),
         8 => print(b"get_bits_subexp_u"),
         9 => print(b"get_bits_subexp"),
-        10 => print(b"bytealign"),
+        _ => print(b"bytealign"),
+    }
+}
+
+// The name of any other operation.
+fn print_operation(kind: usize) {
+    match kind {
         11 => print(b"parse_tile_info"),
         12 => print(b"parse_seq_hdr"),
         13 => print(b"parse_tile_info_frmhdr"),
         14 => print(b"parse_seg_info"),
         15 => print(b"positions"),
-        _ => print(b"tile_rectangles"),
+        16 => print(b"tile_rectangles"),
+        17 => print(b"parse_tile_info_within"),
+        _ => print(b"parse_tile_info_frmhdr_within"),
+    }
+}
+
+fn print_name(kind: usize) {
+    if kind < 11 {
+        print_reading(kind);
+    } else {
+        print_operation(kind);
     }
 }
 
@@ -883,10 +952,10 @@ fn print_line(t: Tally, kind: usize) -> bool {
 
 // A line for each operation. Could the last be written?
 fn print_tally(t: Tally) -> bool {
-    for kind in 0..16 {
+    for kind in 0..18 {
         print_line(t, kind);
     }
-    print_line(t, 16)
+    print_line(t, 18)
 }
 
 fn main() {
@@ -896,8 +965,8 @@ fn main() {
         return;
     }
     let none = Tally {
-        replayed: [0; 17],
-        agree: [0; 17],
+        replayed: [0; 19],
+        agree: [0; 19],
     };
     report_written(print_tally(replay_all(fd, none)));
     libc::close(fd);

@@ -16,6 +16,9 @@ pub struct LayoutArgs {
     pub tier: u8,
 }
 
+/// The limit of the rows that have one: the panel's.
+const LIMIT: ours::TileLimit = ours::TileLimit::PANEL;
+
 pub trait Library {
     type Reader<'a>;
     type Tile: Default;
@@ -29,6 +32,16 @@ pub trait Library {
     fn parse_tile_info(t: &mut Self::Tile, gb: &mut Self::Reader<'_>, a: &LayoutArgs) -> bool;
     fn parse_seq_hdr(gb: &mut Self::Reader<'_>) -> Option<Self::Header>;
     fn parse_tile_info_frmhdr(
+        hdr: &mut Self::Frame,
+        seqhdr: &Self::Header,
+        gb: &mut Self::Reader<'_>,
+    ) -> bool;
+    fn parse_tile_info_within(
+        t: &mut Self::Tile,
+        gb: &mut Self::Reader<'_>,
+        a: &LayoutArgs,
+    ) -> bool;
+    fn parse_tile_info_frmhdr_within(
         hdr: &mut Self::Frame,
         seqhdr: &Self::Header,
         gb: &mut Self::Reader<'_>,
@@ -129,6 +142,85 @@ impl Library for Ours {
     ) -> bool {
         ours::parse_tile_info_frmhdr(hdr, seqhdr, gb).is_ok()
     }
+
+    #[inline(always)]
+    fn parse_tile_info_within(
+        t: &mut Self::Tile,
+        gb: &mut Self::Reader<'_>,
+        a: &LayoutArgs,
+    ) -> bool {
+        ours::parse_tile_info_within(
+            t,
+            gb,
+            a.sbmul,
+            a.sb128,
+            a.seq_sb128,
+            a.w,
+            a.h,
+            a.level,
+            a.tier,
+            LIMIT,
+        )
+        .is_ok()
+    }
+
+    #[inline(always)]
+    fn parse_tile_info_frmhdr_within(
+        hdr: &mut Self::Frame,
+        seqhdr: &Self::Header,
+        gb: &mut Self::Reader<'_>,
+    ) -> bool {
+        ours::parse_tile_info_frmhdr_within(hdr, seqhdr, gb, LIMIT).is_ok()
+    }
+}
+
+/// The numbers of a layout that is written over, kept beside it without an allocation.
+struct Kept {
+    uniform: bool,
+    numbers: [u8; 8],
+    starts: [[u16; 65]; 2],
+}
+
+impl Kept {
+    #[inline(always)]
+    fn of(t: &theirs::TileInfo) -> Self {
+        Self {
+            uniform: t.uniform,
+            numbers: [
+                t.min_log2_cols,
+                t.max_log2_cols,
+                t.log2_cols,
+                t.cols,
+                t.min_log2_rows,
+                t.max_log2_rows,
+                t.log2_rows,
+                t.rows,
+            ],
+            starts: [*t.col_start_sb, *t.row_start_sb],
+        }
+    }
+
+    #[inline(always)]
+    fn put_back(&self, t: &mut theirs::TileInfo) {
+        t.uniform = self.uniform;
+        [
+            t.min_log2_cols,
+            t.max_log2_cols,
+            t.log2_cols,
+            t.cols,
+            t.min_log2_rows,
+            t.max_log2_rows,
+            t.log2_rows,
+            t.rows,
+        ] = self.numbers;
+        [*t.col_start_sb, *t.row_start_sb] = self.starts;
+    }
+}
+
+/// The rule of the limit over a reading of the Rust.
+#[inline(always)]
+fn is_too_many(t: &theirs::TileInfo) -> bool {
+    t.cols > LIMIT.cols || t.rows > LIMIT.rows
 }
 
 impl Library for Theirs {
@@ -158,5 +250,36 @@ impl Library for Theirs {
         gb: &mut Self::Reader<'_>,
     ) -> bool {
         gb.parse_tile_info_frmhdr(hdr, seqhdr).is_ok()
+    }
+
+    #[inline(always)]
+    fn parse_tile_info_within(
+        t: &mut Self::Tile,
+        gb: &mut Self::Reader<'_>,
+        a: &LayoutArgs,
+    ) -> bool {
+        let given = Kept::of(t);
+        let accepted = Self::parse_tile_info(t, gb, a);
+        if accepted && is_too_many(t) {
+            given.put_back(t);
+            return false;
+        }
+        accepted
+    }
+
+    #[inline(always)]
+    fn parse_tile_info_frmhdr_within(
+        hdr: &mut Self::Frame,
+        seqhdr: &Self::Header,
+        gb: &mut Self::Reader<'_>,
+    ) -> bool {
+        let (sb128, given) = (hdr.sb128, Kept::of(&hdr.tiling.t));
+        let accepted = Self::parse_tile_info_frmhdr(hdr, seqhdr, gb);
+        if accepted && is_too_many(&hdr.tiling.t) {
+            hdr.sb128 = sb128;
+            given.put_back(&mut hdr.tiling.t);
+            return false;
+        }
+        accepted
     }
 }

@@ -1,7 +1,7 @@
 //! The rows of the table: loops over whole calls.
 
 use crate::inputs::{FrameInput, Inputs, LayoutInput};
-use crate::library::Library;
+use crate::library::{LayoutArgs, Library};
 use std::hint::black_box;
 
 #[derive(Debug, Clone, Copy, PartialEq, Eq)]
@@ -11,19 +11,25 @@ pub enum Row {
     GetUniform,
     TileInfoUniform,
     TileInfoNonUniform,
+    TileInfoWithinUniform,
+    TileInfoWithinNonUniform,
     SeqHdr,
     TileInfoFrmhdr,
+    TileInfoFrmhdrWithin,
 }
 
 impl Row {
-    pub const ALL: [Self; 7] = [
+    pub const ALL: [Self; 10] = [
         Self::GetBit,
         Self::GetBits,
         Self::GetUniform,
         Self::TileInfoUniform,
         Self::TileInfoNonUniform,
+        Self::TileInfoWithinUniform,
+        Self::TileInfoWithinNonUniform,
         Self::SeqHdr,
         Self::TileInfoFrmhdr,
+        Self::TileInfoFrmhdrWithin,
     ];
 
     pub fn name(self) -> &'static str {
@@ -33,8 +39,11 @@ impl Row {
             Self::GetUniform => "get_uniform",
             Self::TileInfoUniform => "parse_tile_info, uniform",
             Self::TileInfoNonUniform => "parse_tile_info, non-uniform",
+            Self::TileInfoWithinUniform => "parse_tile_info_within, uniform",
+            Self::TileInfoWithinNonUniform => "parse_tile_info_within, non-uniform",
             Self::SeqHdr => "parse_seq_hdr",
             Self::TileInfoFrmhdr => "parse_tile_info_frmhdr",
+            Self::TileInfoFrmhdrWithin => "parse_tile_info_frmhdr_within",
         }
     }
 
@@ -46,8 +55,13 @@ impl Row {
             Self::GetUniform => get_uniform::<L>(&inputs.bytes, &inputs.maxima, calls),
             Self::TileInfoUniform => parse_tile_info::<L>(&inputs.uniform, calls),
             Self::TileInfoNonUniform => parse_tile_info::<L>(&inputs.non_uniform, calls),
+            Self::TileInfoWithinUniform => parse_tile_info_within::<L>(&inputs.uniform, calls),
+            Self::TileInfoWithinNonUniform => {
+                parse_tile_info_within::<L>(&inputs.non_uniform, calls)
+            }
             Self::SeqHdr => parse_seq_hdr::<L>(&inputs.headers, calls),
             Self::TileInfoFrmhdr => parse_tile_info_frmhdr::<L>(&inputs.frames, calls),
+            Self::TileInfoFrmhdrWithin => parse_tile_info_frmhdr_within::<L>(&inputs.frames, calls),
         }
     }
 }
@@ -95,12 +109,26 @@ fn get_uniform<L: Library>(bytes: &[u8], maxima: &[u32], calls: u64) -> (u64, u6
 
 #[inline(never)]
 fn parse_tile_info<L: Library>(list: &[LayoutInput], calls: u64) -> (u64, u64) {
+    layouts::<L>(list, calls, L::parse_tile_info)
+}
+
+#[inline(never)]
+fn parse_tile_info_within<L: Library>(list: &[LayoutInput], calls: u64) -> (u64, u64) {
+    layouts::<L>(list, calls, L::parse_tile_info_within)
+}
+
+#[inline(always)]
+fn layouts<L: Library>(
+    list: &[LayoutInput],
+    calls: u64,
+    call: impl Fn(&mut L::Tile, &mut L::Reader<'_>, &LayoutArgs) -> bool,
+) -> (u64, u64) {
     let (mut made, mut mark) = (0, 0_u64);
     let mut t = L::Tile::default();
     while made < calls {
         for input in list {
             let gb = &mut L::reader(black_box(&input.data));
-            L::parse_tile_info(&mut t, gb, black_box(&input.args));
+            call(&mut t, gb, black_box(&input.args));
             mark = mark.wrapping_add(L::tile_mark(black_box(&t)));
         }
         made += list.len() as u64;
@@ -124,16 +152,30 @@ fn parse_seq_hdr<L: Library>(list: &[Vec<u8>], calls: u64) -> (u64, u64) {
 }
 
 #[inline(never)]
-fn parse_tile_info_frmhdr<L: Library>(frames: &[FrameInput], calls: u64) -> (u64, u64) {
+fn parse_tile_info_frmhdr<L: Library>(list: &[FrameInput], calls: u64) -> (u64, u64) {
+    frames::<L>(list, calls, L::parse_tile_info_frmhdr)
+}
+
+#[inline(never)]
+fn parse_tile_info_frmhdr_within<L: Library>(list: &[FrameInput], calls: u64) -> (u64, u64) {
+    frames::<L>(list, calls, L::parse_tile_info_frmhdr_within)
+}
+
+#[inline(always)]
+fn frames<L: Library>(
+    list: &[FrameInput],
+    calls: u64,
+    call: impl Fn(&mut L::Frame, &L::Header, &mut L::Reader<'_>) -> bool,
+) -> (u64, u64) {
     let (mut made, mut mark) = (0, 0_u64);
-    let mut list: Vec<_> = frames
+    let mut list: Vec<_> = list
         .iter()
         .map(|input| (L::frame(&input.args), &input.data))
         .collect();
     while made < calls {
         for ((hdr, seqhdr), data) in &mut list {
             let gb = &mut L::reader(black_box(data));
-            L::parse_tile_info_frmhdr(hdr, black_box(seqhdr), gb);
+            call(hdr, black_box(seqhdr), gb);
             mark = mark.wrapping_add(L::frame_mark(black_box(hdr)));
         }
         made += list.len() as u64;

@@ -14,11 +14,11 @@ pub fn decided(case: &Case, out: &mut Outcome) -> bool {
     match case.kind {
         kind if is_short(kind, &case.lent) => short(case, out),
         Kind::TileRectangles => rectangles(a, out),
-        Kind::ParseTileInfo if !in_domain(&a[TILE..]) => {
-            outside_domain(case, &a[..TILE], out);
+        Kind::ParseTileInfo | Kind::ParseTileInfoWithin if !in_domain(&a[TILE..]) => {
+            outside_domain(case, out);
         }
-        Kind::ParseTileInfoFrmhdr if !in_frame_domain(a) => {
-            outside_domain(case, &a[3..4 + TILE], out);
+        Kind::ParseTileInfoFrmhdr | Kind::ParseTileInfoFrmhdrWithin if !in_frame_domain(a) => {
+            outside_domain(case, out);
         }
         kind if beyond_limit(kind, a) => {
             out.rule = Some(Rule::Limit);
@@ -45,11 +45,10 @@ fn short(case: &Case, out: &mut Outcome) {
     out.answer = 5;
     out.place = case.place;
     match case.kind {
-        Kind::ParseTileInfo => out.record.extend(&a[..TILE]),
         Kind::ParseSeqHdr => out.record.resize(HEADER, LENT),
-        Kind::ParseTileInfoFrmhdr => out.record.extend(&a[3..4 + TILE]),
         Kind::ParseSegInfo => out.record.extend(&a[..SEG]),
-        _ => lent_numbers(a, out),
+        Kind::TileRectangles => lent_numbers(a, out),
+        _ => out.record.extend(case.given()),
     }
 }
 
@@ -64,11 +63,11 @@ fn beyond_limit(kind: Kind, a: &[i64]) -> bool {
     }
 }
 
-fn outside_domain(case: &Case, given: &[i64], out: &mut Outcome) {
+fn outside_domain(case: &Case, out: &mut Outcome) {
     out.rule = Some(Rule::Domain);
     out.answer = 4;
     out.place = case.settled();
-    out.record.extend(given);
+    out.record.extend(case.given());
 }
 
 fn is_size(n: i64) -> bool {

@@ -1,6 +1,7 @@
 //! A case: what an operation is called on. An outcome: what it answers.
 
 use crate::kind::Kind;
+use crate::records::TILE;
 use crate::rule::Rule;
 
 /// The byte reached, the bits of it used, and the reader's error.
@@ -27,6 +28,13 @@ impl Place {
     }
 }
 
+/// The most columns and rows that a viewer can show.
+#[derive(Debug, Clone, Copy, PartialEq, Eq)]
+pub struct Limit {
+    pub cols: i64,
+    pub rows: i64,
+}
+
 /// The arguments are numbers in the order of the C interface; a record is given number by number.
 #[derive(Debug, Clone, Default, PartialEq)]
 pub struct Case {
@@ -43,6 +51,22 @@ impl Case {
         Self {
             kind,
             ..Self::default()
+        }
+    }
+
+    /// The layout that a layout's or a frame's reading is given, a frame's behind its code: what a refusal hands back.
+    pub fn given(&self) -> &[i64] {
+        match self.kind {
+            Kind::ParseTileInfo | Kind::ParseTileInfoWithin => &self.args[..TILE],
+            _ => &self.args[3..4 + TILE],
+        }
+    }
+
+    /// The limit, of a kind that has one.
+    pub fn limit(&self) -> Option<Limit> {
+        match self.args[..] {
+            [.., cols, rows] if self.kind.is_limited() => Some(Limit { cols, rows }),
+            _ => None,
         }
     }
 

@@ -54,6 +54,13 @@ impl Exhaustive {
             Kind::ParseSeqHdr => vec![block(vec![vec![0], vec![1]], few_places())],
             Kind::ParseSegInfo => vec![block(seg_args(), few_places())],
             Kind::ParseTileInfoFrmhdr => vec![block(frame_args(), few_places())],
+            Kind::ParseTileInfoWithin => {
+                let args = layout_args(&[14], &[[256, 128], [1150, 600]]);
+                vec![block(limited(args, &LIMITS), few_places())]
+            }
+            Kind::ParseTileInfoFrmhdrWithin => {
+                vec![block(limited(frame_args(), &LIMITS), few_places())]
+            }
             Kind::ParseTileInfo => vec![
                 block(layout_args(&[0, 14, 18], &SIZES), few_places()),
                 Block {
@@ -203,6 +210,17 @@ fn layout_args(levels: &[i64], sizes: &[[i64; 2]]) -> Vec<Vec<i64>> {
         }
     }
     list
+}
+
+/// Most columns and rows, about those of the small layouts, and the panel's.
+const LIMITS: [[i64; 2]; 4] = [[1, 2], [2, 1], [4, 2], [16, 8]];
+
+/// Each row of arguments within each limit.
+fn limited(args: Vec<Vec<i64>>, limits: &[[i64; 2]]) -> Vec<Vec<i64>> {
+    let within = |args: &Vec<i64>, limit: &[i64; 2]| [&args[..], limit].concat();
+    args.iter()
+        .flat_map(|args| limits.iter().map(move |limit| within(args, limit)))
+        .collect()
 }
 
 fn old_record() -> Vec<i64> {

@@ -21,6 +21,8 @@ pub enum Kind {
     /// byte_pos, remaining_bytes and remaining_slice.
     Positions,
     TileRectangles,
+    ParseTileInfoWithin,
+    ParseTileInfoFrmhdrWithin,
     /// Several readings by one reader.
     Rows,
     /// The Rust's own callers of the reader, over both readers.
@@ -28,8 +30,8 @@ pub enum Kind {
 }
 
 impl Kind {
-    /// In the order of their numbers in the stored list, which has the first 17.
-    pub const ALL: [Self; 19] = [
+    /// In the order of their numbers in the stored list, which has the first 19.
+    pub const ALL: [Self; 21] = [
         Self::GetBit,
         Self::GetBits,
         Self::GetSbits,
@@ -47,6 +49,8 @@ impl Kind {
         Self::ParseSegInfo,
         Self::Positions,
         Self::TileRectangles,
+        Self::ParseTileInfoWithin,
+        Self::ParseTileInfoFrmhdrWithin,
         Self::Rows,
         Self::Callers,
     ];
@@ -54,7 +58,7 @@ impl Kind {
     /// The readings that answer a number, and bytealign.
     pub const READINGS: usize = 11;
     /// The kinds that the stored list has.
-    pub const STORED: usize = 17;
+    pub const STORED: usize = 19;
 
     pub fn number(self) -> u64 {
         self as u64
@@ -80,6 +84,8 @@ impl Kind {
             Self::Positions => "positions",
             Self::Rows => "rows",
             Self::TileRectangles => "tile_rectangles",
+            Self::ParseTileInfoWithin => "parse_tile_info_within",
+            Self::ParseTileInfoFrmhdrWithin => "parse_tile_info_frmhdr_within",
             Self::Callers => "callers",
         }
     }
@@ -97,15 +103,23 @@ impl Kind {
                 | Self::ParseTileInfoFrmhdr
                 | Self::ParseSegInfo
                 | Self::TileRectangles
+        ) || self.is_limited()
+    }
+
+    /// Whether the last two arguments are a limit: the most columns, the most rows.
+    pub fn is_limited(self) -> bool {
+        matches!(
+            self,
+            Self::ParseTileInfoWithin | Self::ParseTileInfoFrmhdrWithin
         )
     }
 
     /// The full lengths of the buffers that are lent beside the data.
     pub fn full_lengths(self) -> &'static [i64] {
         match self {
-            Self::ParseTileInfo | Self::TileRectangles => &[9, 65, 65],
+            Self::ParseTileInfo | Self::ParseTileInfoWithin | Self::TileRectangles => &[9, 65, 65],
             Self::ParseSeqHdr => &[146, 9, 65, 65],
-            Self::ParseTileInfoFrmhdr => &[9, 65, 65, 9, 65, 65],
+            Self::ParseTileInfoFrmhdr | Self::ParseTileInfoFrmhdrWithin => &[9, 65, 65, 9, 65, 65],
             Self::ParseSegInfo => &[16, 3],
             _ => &[],
         }

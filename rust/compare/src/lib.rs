@@ -40,6 +40,11 @@ mod theirs;
 #[cfg(feature = "ours")]
 pub mod wrong;
 
+/// The rule of a limit, from the file that the build script names.
+pub mod within {
+    include!(env!("WITHIN_RULE"));
+}
+
 // The Rust's callers name these by their paths in its crate.
 #[cfg(feature = "ours")]
 use callers::{error, headers, intops};

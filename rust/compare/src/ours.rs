@@ -4,7 +4,7 @@ use crate::callers;
 use crate::case::{Case, Outcome, Place};
 use crate::kind::Kind;
 use crate::records::{Numbers, SEG, TILE, from::ours as from};
-use mubanlig::{Error, GetBits};
+use mubanlig::{Error, GetBits, TileLimit};
 
 pub fn run(case: &Case, out: &mut Outcome) {
     out.clear();
@@ -12,12 +12,14 @@ pub fn run(case: &Case, out: &mut Outcome) {
     let Place { byte, used, error } = case.place;
     let gb = &mut GetBits::at_place(&case.data, mubanlig::Place { byte, used, error });
     match case.kind {
-        Kind::ParseTileInfo => parse_tile_info(a, gb, out),
+        Kind::ParseTileInfo | Kind::ParseTileInfoWithin => parse_tile_info(case, gb, out),
         Kind::ParseSeqHdr => match mubanlig::parse_seq_hdr(gb, a[0] != 0) {
             Ok(hdr) => hdr.numbers(&mut out.record),
             Err(refusal) => out.answer = i64::from(refusal.number()),
         },
-        Kind::ParseTileInfoFrmhdr => parse_tile_info_frmhdr(a, gb, out),
+        Kind::ParseTileInfoFrmhdr | Kind::ParseTileInfoFrmhdrWithin => {
+            parse_tile_info_frmhdr(case, gb, out);
+        }
         Kind::ParseSegInfo => {
             let mut seg = from::seg_info(a);
             mubanlig::parse_seg_info(&mut seg, gb, a[SEG] != 0);
@@ -81,27 +83,34 @@ fn number(answer: Result<(), Error>) -> i64 {
     answer.map_or_else(|refusal| i64::from(refusal.number()), |()| 0)
 }
 
-fn parse_tile_info(a: &[i64], gb: &mut GetBits, out: &mut Outcome) {
-    let mut t = from::tile_info(a);
-    let b = &a[TILE..];
-    out.answer = number(mubanlig::parse_tile_info(
-        &mut t,
-        gb,
-        b[0] as i32,
-        b[1] as u8,
-        b[2] as u8,
-        b[3] as i32,
-        b[4] as i32,
-        b[5] as u8,
-        b[6] as u8,
-    ));
+fn limit(case: &Case) -> Option<TileLimit> {
+    case.limit().map(|limit| TileLimit {
+        cols: limit.cols as u8,
+        rows: limit.rows as u8,
+    })
+}
+
+fn parse_tile_info(case: &Case, gb: &mut GetBits, out: &mut Outcome) {
+    let mut t = from::tile_info(&case.args);
+    let b = &case.args[TILE..];
+    let [sbmul, w, h] = [b[0], b[3], b[4]].map(|n| n as i32);
+    let [sb128, seq_sb128, level, tier] = [b[1], b[2], b[5], b[6]].map(|n| n as u8);
+    out.answer = number(match limit(case) {
+        None => mubanlig::parse_tile_info(&mut t, gb, sbmul, sb128, seq_sb128, w, h, level, tier),
+        Some(limit) => mubanlig::parse_tile_info_within(
+            &mut t, gb, sbmul, sb128, seq_sb128, w, h, level, tier, limit,
+        ),
+    });
     t.numbers(&mut out.record);
 }
 
-fn parse_tile_info_frmhdr(a: &[i64], gb: &mut GetBits, out: &mut Outcome) {
-    let mut hdr = from::frame(a);
-    let seqhdr = from::sequence(&a[4 + TILE..]);
-    out.answer = number(mubanlig::parse_tile_info_frmhdr(&mut hdr, &seqhdr, gb));
+fn parse_tile_info_frmhdr(case: &Case, gb: &mut GetBits, out: &mut Outcome) {
+    let mut hdr = from::frame(&case.args);
+    let seqhdr = from::sequence(&case.args[4 + TILE..]);
+    out.answer = number(match limit(case) {
+        None => mubanlig::parse_tile_info_frmhdr(&mut hdr, &seqhdr, gb),
+        Some(limit) => mubanlig::parse_tile_info_frmhdr_within(&mut hdr, &seqhdr, gb, limit),
+    });
     hdr.sb128.numbers(&mut out.record);
     hdr.tiling.t.numbers(&mut out.record);
 }

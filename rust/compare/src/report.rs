@@ -37,9 +37,9 @@ pub fn summary(tallies: &[(Kind, Tally)]) -> String {
 fn outcomes(text: &mut String, tallies: &[(Kind, Tally)]) -> std::fmt::Result {
     writeln!(
         text,
-        "| kind | cases | accepted | 1 | 2 | 3 | 4 | 5 | reader's error | known differences |"
+        "| kind | cases | accepted | 1 | 2 | 3 | 4 | 5 | 6 | reader's error | known differences |"
     )?;
-    writeln!(text, "|---|---:|---:|---:|---:|---:|---:|---:|---:|---:|")?;
+    writeln!(text, "|---|{}", "---:|".repeat(10))?;
     for (kind, tally) in tallies {
         write!(
             text,
@@ -162,13 +162,18 @@ fn text_of(numbers: &[i64]) -> String {
 
 fn record_names(kind: Kind) -> Vec<String> {
     match kind {
-        Kind::ParseTileInfo => tile_names(),
+        Kind::ParseTileInfo | Kind::ParseTileInfoWithin => tile_names(),
         Kind::ParseSeqHdr => header_names(),
         Kind::ParseSegInfo => seg_names(),
-        Kind::ParseTileInfoFrmhdr => [vec!["sb128".to_string()], tile_names()].concat(),
+        Kind::ParseTileInfoFrmhdr | Kind::ParseTileInfoFrmhdrWithin => {
+            [vec!["sb128".to_string()], tile_names()].concat()
+        }
         _ => vec![],
     }
 }
+
+/// The names of a limit's numbers, which a kind without a limit has not.
+const LIMIT: [&str; 2] = ["max_cols", "max_rows"];
 
 /// The names of a kind's arguments.
 fn arg_names(kind: Kind) -> Vec<String> {
@@ -188,12 +193,13 @@ fn arg_names(kind: Kind) -> Vec<String> {
         Kind::GetBitsSubexp => plain(&["ref_val", "n"]),
         Kind::ParseSeqHdr => plain(&["strict"]),
         Kind::ParseSegInfo => [seg_names(), plain(&["ext"])].concat(),
-        Kind::ParseTileInfo => [
+        Kind::ParseTileInfo | Kind::ParseTileInfoWithin => [
             layout("given "),
             plain(&["sbmul", "sb128", "seq_sb128", "w", "h", "level", "tier"]),
+            plain(&LIMIT),
         ]
         .concat(),
-        Kind::ParseTileInfoFrmhdr => [
+        Kind::ParseTileInfoFrmhdr | Kind::ParseTileInfoFrmhdrWithin => [
             plain(&["frame_type", "width", "height", "sb128"]),
             layout("given "),
             plain(&[
@@ -205,6 +211,7 @@ fn arg_names(kind: Kind) -> Vec<String> {
                 "present",
             ]),
             layout("sequence's "),
+            plain(&LIMIT),
         ]
         .concat(),
         Kind::TileRectangles => [

@@ -14,16 +14,19 @@ pub enum Rule {
     Rectangles,
     /// A lent buffer is too short: 5, nothing changes.
     Short,
+    /// More columns or rows than the limit: 6, and the record given comes back. The Rust knows no limit.
+    TooMany,
 }
 
 impl Rule {
-    pub const ALL: [Self; 6] = [
+    pub const ALL: [Self; 7] = [
         Self::Limit,
         Self::PastEnd,
         Self::Domain,
         Self::WholeRecord,
         Self::Rectangles,
         Self::Short,
+        Self::TooMany,
     ];
 
     pub fn sentence(self) -> &'static str {
@@ -34,11 +37,12 @@ impl Rule {
             Self::WholeRecord => "refused with 2: the record given comes back whole",
             Self::Rectangles => "the rectangles are document 01's, not the Rust's",
             Self::Short => "a lent buffer too short: 5, nothing changes",
+            Self::TooMany => "more columns or rows than the limit: 6, the record given comes back",
         }
     }
 
     /// Whether the whole answer is document 01's, whatever the Rust answers.
     pub fn decides(self) -> bool {
-        !matches!(self, Self::PastEnd | Self::WholeRecord)
+        !matches!(self, Self::PastEnd | Self::WholeRecord | Self::TooMany)
     }
 }

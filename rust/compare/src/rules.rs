@@ -1,11 +1,15 @@
-//! What our library has to answer: by a rule of document 01, else the Rust's answer.
+//! What our library has to answer: by a rule of document 01, else the Rust's answer; and within a limit, what its rule makes
+//! of that.
 
 use crate::case::{Case, Outcome};
-use crate::{by_rule, theirs};
+use crate::{by_rule, theirs, within};
 
 pub fn expected(case: &Case, out: &mut Outcome) {
     out.clear();
     if !by_rule::decided(case, out) {
         theirs::run(case, out);
+    }
+    if let Some(limit) = case.limit() {
+        within::hold(case, limit, out);
     }
 }

@@ -3,8 +3,9 @@
 //! A case is its length in bytes (two bytes, the low one first), then numbers in uleb128: the kind; how many data
 //! bytes, and these bytes as they are; three rows of numbers: the place's position in bits and its error, the arguments,
 //! and the outcome. A row is how many numbers it has, and these; a 0 in it is followed by how many further zeros follow. A
-//! number below 0 is stored with 2^32 added. Arguments are those of the kind, then the lengths of the lent buffers. An
-//! outcome is the value or the answer's number, the position and the error after it, and the record that comes back.
+//! number below 0 is stored with 2^32 added. Arguments are those of the kind, then the lengths of the lent buffers, then the
+//! limit of a kind that has one. An outcome is the value or the answer's number, the position and the error after it, and the
+//! record that comes back.
 
 use crate::case::{Case, Outcome, Place};
 use crate::kind::Kind;
@@ -63,15 +64,21 @@ fn case_bytes(stored: &Stored) -> Vec<u8> {
         &mut out,
         &[case.place.bits() as u32, case.place.error.into()],
     );
-    let args: Vec<u32> = case
-        .args
+    let (args, limit) = case.args.split_at(case.args.len() - limits(case.kind));
+    let args: Vec<u32> = args
         .iter()
         .chain(lengths(case))
+        .chain(limit)
         .map(|&arg| arg as u32)
         .collect();
     row(&mut out, &args);
     row(&mut out, &stored.outcome);
     out
+}
+
+/// How many arguments of a kind are a limit, which stands behind the lengths.
+fn limits(kind: Kind) -> usize {
+    if kind.is_limited() { 2 } else { 0 }
 }
 
 /// The lengths of the lent buffers.
@@ -157,7 +164,9 @@ impl Numbers<'_> {
         let place = self.row();
         let row = self.row();
         let full = kind.full_lengths();
+        let (row, limit) = row.split_at(row.len() - limits(kind));
         let (args, lent) = row.split_at(row.len() - full.len());
+        let args = [args, limit].concat();
         let lent: Vec<i64> = lent.iter().map(|&len| len.into()).collect();
         Stored {
             case: Case {
@@ -167,7 +176,7 @@ impl Numbers<'_> {
                     error: place[1] != 0,
                     ..Place::behind(place[0] as usize)
                 },
-                args: signed_args(kind, args),
+                args: signed_args(kind, &args),
                 lent: if lent == full { vec![] } else { lent },
             },
             outcome: self.row(),

@@ -17,12 +17,14 @@ pub fn run(case: &Case, out: &mut Outcome) {
         out.rule = Some(Rule::PastEnd);
     }
     match case.kind {
-        Kind::ParseTileInfo => parse_tile_info(a, gb, out),
+        Kind::ParseTileInfo | Kind::ParseTileInfoWithin => parse_tile_info(case, gb, out),
         Kind::ParseSeqHdr => match gb.parse_seq_hdr(a[0] != 0) {
             Ok(hdr) => hdr.numbers(&mut out.record),
             Err(refusal) => out.answer = number(Err(refusal)),
         },
-        Kind::ParseTileInfoFrmhdr => parse_tile_info_frmhdr(a, gb, out),
+        Kind::ParseTileInfoFrmhdr | Kind::ParseTileInfoFrmhdrWithin => {
+            parse_tile_info_frmhdr(case, gb, out);
+        }
         Kind::ParseSegInfo => {
             let mut seg = from::seg_info(a);
             gb.parse_seg_info(&mut seg, if a[SEG] != 0 { 16 } else { 8 });
@@ -93,15 +95,16 @@ fn number(answer: Result<(), TealdustError>) -> i64 {
 }
 
 /// Document 01: a refusal hands back the record given. The Rust leaves it half changed.
-fn whole_if_refused(out: &mut Outcome, given: impl Iterator<Item = i64> + Clone) {
-    if out.answer != 0 && !out.record.iter().copied().eq(given.clone()) {
+fn whole_if_refused(out: &mut Outcome, given: &[i64]) {
+    if out.answer != 0 && out.record != given {
         out.rule = Some(Rule::WholeRecord);
         out.record.clear();
         out.record.extend(given);
     }
 }
 
-fn parse_tile_info(a: &[i64], gb: &mut Reader, out: &mut Outcome) {
+fn parse_tile_info(case: &Case, gb: &mut Reader, out: &mut Outcome) {
+    let a = &case.args;
     let mut t = from::tile_info(a);
     let b = &a[TILE..];
     out.answer = number(gb.parse_tile_info(
@@ -115,14 +118,15 @@ fn parse_tile_info(a: &[i64], gb: &mut Reader, out: &mut Outcome) {
         b[6] as u8,
     ));
     t.numbers(&mut out.record);
-    whole_if_refused(out, a[..TILE].iter().copied());
+    whole_if_refused(out, case.given());
 }
 
-fn parse_tile_info_frmhdr(a: &[i64], gb: &mut Reader, out: &mut Outcome) {
+fn parse_tile_info_frmhdr(case: &Case, gb: &mut Reader, out: &mut Outcome) {
+    let a = &case.args;
     let mut hdr = from::frame(a);
     let seqhdr = from::sequence(&a[4 + TILE..]);
     out.answer = number(gb.parse_tile_info_frmhdr(&mut hdr, &seqhdr));
     hdr.sb128.numbers(&mut out.record);
     hdr.tiling.t.numbers(&mut out.record);
-    whole_if_refused(out, a[3..4 + TILE].iter().copied());
+    whole_if_refused(out, case.given());
 }

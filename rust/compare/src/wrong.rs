@@ -1,4 +1,4 @@
-//! Wrong versions of the Rust, one line each, and how many stored answers notice each of them.
+//! Wrong versions of the Rust and of the rule of a limit, one line each, and how many stored answers notice each of them.
 
 use crate::rebuild;
 use std::fmt::Write;
@@ -11,8 +11,20 @@ use std::{fs, thread};
 /// end of a line.
 const VERSIONS: &str = include_str!("../wrong.tsv");
 
-/// The Rust's files that the oracle is made of.
-const FILES: [&str; 4] = ["getbits.rs", "intops.rs", "headers.rs", "obu.rs"];
+/// The rule of a limit, which is taken from beside the Rust's files where it stands there.
+const RULE: &str = "within.rs";
+
+/// The Rust's files that the oracle is made of, and the rule.
+const FILES: [&str; 5] = ["getbits.rs", "intops.rs", "headers.rs", "obu.rs", RULE];
+
+/// Where the right version of a file stands.
+fn right(file: &str) -> PathBuf {
+    if file == RULE {
+        PathBuf::from(env!("WITHIN_RULE"))
+    } else {
+        Path::new(oracle::FOLDER).join(file)
+    }
+}
 
 pub struct Version {
     pub file: String,
@@ -91,7 +103,7 @@ pub fn table(answers: &Path, threads: usize) -> Result<String, String> {
         }
     });
     let mut text =
-        String::from("| function | the Rust | wrong | answers that differ |\n|---|---|---|---:|\n");
+        String::from("| function | right | wrong | answers that differ |\n|---|---|---|---:|\n");
     let mut fewest = u64::MAX;
     for (version, noticed) in versions.iter().zip(rows.into_inner().unwrap()) {
         let noticed = noticed?;
@@ -118,7 +130,7 @@ fn noticed(version: &Version, worker: usize, answers: &Path) -> Result<u64, Stri
     let src: PathBuf = scratch.join("src");
     fs::create_dir_all(&src).map_err(|e| format!("{}: {e}", src.display()))?;
     for file in FILES {
-        let from = Path::new(oracle::FOLDER).join(file);
+        let from = right(file);
         let text = fs::read_to_string(&from).map_err(|e| format!("{}: {e}", from.display()))?;
         let text = if file == version.file {
             version.applied(&text)
@@ -156,7 +168,7 @@ mod tests {
         let versions = versions();
         assert!(versions.len() >= 60, "{} versions", versions.len());
         for version in versions {
-            let text = fs::read_to_string(Path::new(oracle::FOLDER).join(&version.file)).unwrap();
+            let text = fs::read_to_string(right(&version.file)).unwrap();
             assert_ne!(version.applied(&text), text, "{}", version.old);
         }
     }

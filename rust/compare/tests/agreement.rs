@@ -4,6 +4,8 @@ use compare::bits::BitWriter;
 use compare::case::{Case, Outcome, Place};
 use compare::kind::Kind;
 use compare::make::header::header;
+use compare::make::make;
+use compare::make::within::{PANEL, set_limit};
 use compare::options::Options;
 use compare::report;
 use compare::rng::Rng;
@@ -11,6 +13,7 @@ use compare::rule::Rule;
 use compare::rules;
 use compare::run::{Plan, differs, run};
 use compare::shrink::shrink;
+use compare::within::tiles;
 use oracle::Reader;
 
 fn plan(kind: Kind, seed: u64) -> Plan {
@@ -86,6 +89,75 @@ fn an_added_limit_is_a_known_difference() {
     assert_eq!(expected.rule, Some(Rule::Limit));
     assert_eq!(expected.answer, 0);
     assert!(expected.place.error && expected.place.byte == 0);
+}
+
+/// A layout of 17 columns and 9 rows without data, over a record full of threes, within a limit.
+fn limited(cols: i64, rows: i64) -> (Case, Outcome) {
+    let mut args = vec![3; 139];
+    args.extend([1, 0, 0, 17 * 64, 9 * 64, 0, 0, cols, rows]);
+    let case = Case {
+        args,
+        ..Case::of(Kind::ParseTileInfoWithin)
+    };
+    let mut outcome = Outcome::default();
+    rules::expected(&case, &mut outcome);
+    (case, outcome)
+}
+
+#[test]
+fn a_limit_is_a_known_difference() {
+    let (_, wall) = limited(64, 64);
+    assert_eq!((wall.answer, wall.rule), (0, None));
+    assert_eq!((wall.record[4], wall.record[8]), (17, 9));
+    for (cols, rows, many) in [
+        (17, 9, false),
+        (16, 9, true),
+        (17, 8, true),
+        (16, 8, true),
+        (255, 255, false),
+        (0, 255, true),
+        (255, 0, true),
+    ] {
+        let (case, within) = limited(cols, rows);
+        assert_eq!(within.place, wall.place);
+        if many {
+            assert_eq!((within.answer, within.rule), (6, Some(Rule::TooMany)));
+            assert_eq!(within.record, case.given());
+        } else {
+            assert!(within.agrees(&wall));
+        }
+    }
+}
+
+/// Cases within a limit that have as many columns or rows as the panel, and one more, and limits beside what is read.
+#[test]
+fn the_edges_of_limits_are_made() {
+    for kind in [Kind::ParseTileInfoWithin, Kind::ParseTileInfoFrmhdrWithin] {
+        let mut rng = Rng::new(7);
+        let mut case = Case::of(kind);
+        let mut outcome = Outcome::default();
+        let mut seen = [[0; 2]; 6];
+        for _ in 0..10_000 {
+            make(&mut rng, &mut case, &mut outcome);
+            let limit = case.limit().unwrap();
+            set_limit(&mut case, [255, 255]);
+            rules::expected(&case, &mut outcome);
+            if outcome.answer != 0 {
+                continue;
+            }
+            let counts = tiles(&outcome.record);
+            for (i, (count, most)) in counts.into_iter().zip([limit.cols, limit.rows]).enumerate() {
+                let edges = [count - PANEL[i], count - most];
+                for (at, edge) in edges.into_iter().enumerate() {
+                    if (-1..=1).contains(&edge) {
+                        seen[3 * at + (edge + 1) as usize][i] += 1;
+                    }
+                }
+            }
+        }
+        let least = seen.iter().flatten().min();
+        assert!(least > Some(&300), "{}: {seen:?}", kind.name());
+    }
 }
 
 #[test]

@@ -31,8 +31,11 @@ fn our_library_gives_the_stored_answers() {
     for case in choice::cases(1) {
         rules::expected(&case, &mut outcome);
         // A record of the crate's types has no buffer that is too short, and no unknown number in an enum.
-        let by_type =
-            case.kind == Kind::ParseTileInfoFrmhdr && (case.args[0] > 3 || case.args[148] > 2);
+        let is_frame = matches!(
+            case.kind,
+            Kind::ParseTileInfoFrmhdr | Kind::ParseTileInfoFrmhdrWithin
+        );
+        let by_type = is_frame && (case.args[0] > 3 || case.args[148] > 2);
         if outcome.rule != Some(Rule::Short) && !by_type {
             assert!(!run::differs(&case), "{case:?}");
         }

@@ -1,4 +1,4 @@
-//! Finds the two static libraries of the proved reader, or has them proved, and tells cargo to link them.
+//! Finds the three static libraries of the proved reader, or has them proved, and tells cargo to link them.
 //!
 //! They are taken from the folder that `MUBANLIG_LIB_DIR` names; else from `target/staticlib` of the project, where
 //! `rt staticlib` proves and writes them if they are missing or older than the sources. What is linked is a copy that
@@ -15,13 +15,17 @@ use std::io;
 use std::path::{Path, PathBuf};
 use std::{env, process};
 
-/// The number of the interface, which both libraries say in the name of a function.
+/// The number of the interface, which each library says in the name of a function.
 const INTERFACE: u32 = 2;
 
 /// The crates, the libraries made of them, and the function before the interface's number.
-const NAMES: [&str; 2] = ["capi_bits", "capi"];
-const LIBRARIES: [&str; 2] = ["libcapi_bits.a", "libcapi.a"];
-const MARKS: [&str; 2] = ["mubanlig_bits_interface_", "mubanlig_interface_"];
+const NAMES: [&str; 3] = ["capi_bits", "capi", "capi_within"];
+const LIBRARIES: [&str; 3] = ["libcapi_bits.a", "libcapi.a", "libcapi_within.a"];
+const MARKS: [&str; 3] = [
+    "mubanlig_bits_interface_",
+    "mubanlig_interface_",
+    "mubanlig_within_interface_",
+];
 
 fn main() {
     if let Err(why) = link() {
@@ -54,7 +58,7 @@ fn link() -> Result<(), String> {
             return Err(format!(
                 "this crate does not stand in its project, so its libraries can't be proved: set {} to a folder with {}",
                 settings::FOLDER,
-                LIBRARIES.join(" and ")
+                LIBRARIES.join(", ")
             ));
         }
     }
@@ -72,7 +76,7 @@ fn link() -> Result<(), String> {
 fn take_named(folder: &Path, root: Option<&Path>, linked: &Path) -> Result<(), String> {
     copy(folder, linked).map_err(|why| {
         format!(
-            "{} names {}: {why}; name a folder to which `rt staticlib` wrote both, or unset it",
+            "{} names {}: {why}; name a folder to which `rt staticlib` wrote all three, or unset it",
             settings::FOLDER,
             folder.display()
         )
@@ -103,7 +107,7 @@ fn take_proved(root: &Path, linked: &Path) -> Result<(), String> {
         if let Err(e) = &lock {
             return Err(format!(
                 "{} has to be proved and written, and the project's folder can't be written ({e}): \
-                 make it writable, or set {} to a folder with both libraries",
+                 make it writable, or set {} to a folder with the three libraries",
                 library.display(),
                 settings::FOLDER
             ));
@@ -165,7 +169,7 @@ fn lock(root: &Path, screen: &mut Screen) -> io::Result<File> {
     Ok(folder)
 }
 
-/// Looks through both libraries of a folder and copies them to where they are linked from.
+/// Looks through the libraries of a folder and copies them to where they are linked from.
 fn copy(folder: &Path, linked: &Path) -> Result<(), String> {
     for (library, mark) in LIBRARIES.into_iter().zip(MARKS) {
         let path = folder.join(library);

@@ -26,10 +26,12 @@ pub enum Error {
     WrongArguments,
     /// 5: a buffer has fewer than four numbers a tile.
     ShortBuffer,
+    /// 6: a layout has more columns or more rows than the limit. Its bits are used.
+    TooManyTiles,
 }
 
 impl Error {
-    /// The number of this refusal, 1 to 5.
+    /// The number of this refusal, 1 to 6.
     #[must_use]
     pub fn number(self) -> u32 {
         match self {
@@ -38,6 +40,7 @@ impl Error {
             Self::InvalidTrailingBits => 3,
             Self::WrongArguments => 4,
             Self::ShortBuffer => 5,
+            Self::TooManyTiles => 6,
         }
     }
 }
@@ -52,6 +55,7 @@ pub(crate) fn answer(number: u32) -> Result<(), Error> {
         3 => Err(Error::InvalidTrailingBits),
         4 => Err(Error::WrongArguments),
         5 => Err(Error::ShortBuffer),
+        6 => Err(Error::TooManyTiles),
         _ => unreachable!("the library has no answer {number}"),
     }
 }
@@ -66,6 +70,7 @@ impl fmt::Display for Error {
             Self::InvalidTrailingBits => "the sequence header has no trailing one bit",
             Self::WrongArguments => "an argument is outside the domain",
             Self::ShortBuffer => "the buffer is too short for all tiles",
+            Self::TooManyTiles => "the tile layout has more columns or rows than the limit",
         })
     }
 }

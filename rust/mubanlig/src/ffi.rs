@@ -7,7 +7,7 @@
 use crate::error::{Error, answer};
 use crate::flat;
 use crate::headers::{
-    FrameType, MAX_SEGMENTS, MAX_TILE_COLS, MAX_TILE_ROWS, SequenceHeader, TileInfo,
+    FrameType, MAX_SEGMENTS, MAX_TILE_COLS, MAX_TILE_ROWS, SequenceHeader, TileInfo, TileLimit,
 };
 use std::mem::{MaybeUninit, offset_of};
 use std::ptr;
@@ -184,6 +184,60 @@ unsafe extern "C" {
         out: *mut u32,
         out_len: usize,
     ) -> u32;
+
+    #[cfg(test)]
+    fn mubanlig_within_interface_2() -> u32;
+    fn mubanlig_parse_tile_info_within(
+        s: *const u8,
+        s_len: usize,
+        position: *mut usize,
+        error: *mut u8,
+        info: *mut u8,
+        info_len: usize,
+        col_start_sb: *mut u16,
+        col_start_sb_len: usize,
+        row_start_sb: *mut u16,
+        row_start_sb_len: usize,
+        sbmul: i32,
+        sb128: u8,
+        seq_sb128: u8,
+        w: i32,
+        h: i32,
+        level: u8,
+        tier: u8,
+        max_cols: u8,
+        max_rows: u8,
+    ) -> u32;
+    fn mubanlig_parse_tile_info_frmhdr_within(
+        s: *const u8,
+        s_len: usize,
+        position: *mut usize,
+        error: *mut u8,
+        frame_type: u8,
+        width: i32,
+        height: i32,
+        sb128: *mut u8,
+        info: *mut u8,
+        info_len: usize,
+        col_start_sb: *mut u16,
+        col_start_sb_len: usize,
+        row_start_sb: *mut u16,
+        row_start_sb_len: usize,
+        seq_sb128: u8,
+        max_width: i32,
+        max_height: i32,
+        level: u8,
+        tier: u8,
+        present: u8,
+        seq_info: *const u8,
+        seq_info_len: usize,
+        seq_col_start_sb: *const u16,
+        seq_col_start_sb_len: usize,
+        seq_row_start_sb: *const u16,
+        seq_row_start_sb_len: usize,
+        max_cols: u8,
+        max_rows: u8,
+    ) -> u32;
 }
 
 /// A safe wrapper for each reading: the bytes, the position, the error, then the arguments.
@@ -274,6 +328,7 @@ fn parts_mut(t: &mut TileInfo) -> (*mut u8, *mut u16, *mut u16) {
     (ptr::from_mut(t).cast(), cols, rows)
 }
 
+/// With a limit the function that has one is called, with the limit behind the other arguments.
 #[inline]
 #[allow(clippy::too_many_arguments)]
 pub(crate) fn parse_tile_info(
@@ -288,29 +343,39 @@ pub(crate) fn parse_tile_info(
     h: i32,
     level: u8,
     tier: u8,
+    limit: Option<TileLimit>,
 ) -> u32 {
     let (info, cols, rows) = parts_mut(t);
-    // SAFETY: all is lent by references, the parts of `t` by the one to it.
-    unsafe {
-        mubanlig_parse_tile_info(
-            s.as_ptr(),
-            s.len(),
-            position,
-            error,
-            info,
-            INFO_BYTES,
-            cols,
-            MAX_TILE_COLS + 1,
-            rows,
-            MAX_TILE_ROWS + 1,
-            sbmul,
-            sb128,
-            seq_sb128,
-            w,
-            h,
-            level,
-            tier,
-        )
+    macro_rules! call {
+        ($symbol:ident $(, $limit:expr)*) => {
+            // SAFETY: all is lent by references, the parts of `t` by the one to it.
+            unsafe {
+                $symbol(
+                    s.as_ptr(),
+                    s.len(),
+                    position,
+                    error,
+                    info,
+                    INFO_BYTES,
+                    cols,
+                    MAX_TILE_COLS + 1,
+                    rows,
+                    MAX_TILE_ROWS + 1,
+                    sbmul,
+                    sb128,
+                    seq_sb128,
+                    w,
+                    h,
+                    level,
+                    tier,
+                    $($limit,)*
+                )
+            }
+        };
+    }
+    match limit {
+        None => call!(mubanlig_parse_tile_info),
+        Some(limit) => call!(mubanlig_parse_tile_info_within, limit.cols, limit.rows),
     }
 }
 
@@ -347,6 +412,7 @@ pub(crate) fn parse_seq_hdr(
     Ok(flat::sequence_header(numbers, t))
 }
 
+/// With a limit as [`parse_tile_info`].
 #[inline]
 #[allow(clippy::too_many_arguments)]
 pub(crate) fn parse_tile_info_frmhdr(
@@ -359,39 +425,53 @@ pub(crate) fn parse_tile_info_frmhdr(
     sb128: &mut u8,
     tiling: &mut TileInfo,
     seqhdr: &SequenceHeader,
+    limit: Option<TileLimit>,
 ) -> u32 {
     let (info, cols, rows) = parts_mut(tiling);
     let (seq_info, seq_cols, seq_rows) = parts(&seqhdr.tiling.t);
-    // SAFETY: all is lent by references, the parts of both layouts by those to them.
-    unsafe {
-        mubanlig_parse_tile_info_frmhdr(
-            s.as_ptr(),
-            s.len(),
-            position,
-            error,
-            frame_type as u8,
-            width,
-            height,
-            sb128,
-            info,
-            INFO_BYTES,
-            cols,
-            MAX_TILE_COLS + 1,
-            rows,
-            MAX_TILE_ROWS + 1,
-            seqhdr.sb128,
-            seqhdr.max_width,
-            seqhdr.max_height,
-            seqhdr.level,
-            seqhdr.tier,
-            seqhdr.tiling.present as u8,
-            seq_info,
-            INFO_BYTES,
-            seq_cols,
-            MAX_TILE_COLS + 1,
-            seq_rows,
-            MAX_TILE_ROWS + 1,
-        )
+    macro_rules! call {
+        ($symbol:ident $(, $limit:expr)*) => {
+            // SAFETY: all is lent by references, the parts of both layouts by those to them.
+            unsafe {
+                $symbol(
+                    s.as_ptr(),
+                    s.len(),
+                    position,
+                    error,
+                    frame_type as u8,
+                    width,
+                    height,
+                    sb128,
+                    info,
+                    INFO_BYTES,
+                    cols,
+                    MAX_TILE_COLS + 1,
+                    rows,
+                    MAX_TILE_ROWS + 1,
+                    seqhdr.sb128,
+                    seqhdr.max_width,
+                    seqhdr.max_height,
+                    seqhdr.level,
+                    seqhdr.tier,
+                    seqhdr.tiling.present as u8,
+                    seq_info,
+                    INFO_BYTES,
+                    seq_cols,
+                    MAX_TILE_COLS + 1,
+                    seq_rows,
+                    MAX_TILE_ROWS + 1,
+                    $($limit,)*
+                )
+            }
+        };
+    }
+    match limit {
+        None => call!(mubanlig_parse_tile_info_frmhdr),
+        Some(limit) => call!(
+            mubanlig_parse_tile_info_frmhdr_within,
+            limit.cols,
+            limit.rows
+        ),
     }
 }
 

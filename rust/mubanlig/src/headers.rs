@@ -147,6 +147,28 @@ impl TileInfo {
     }
 }
 
+/// The most columns and rows of a layout that a viewer can show: any numbers.
+///
+/// ```
+/// # use mubanlig::TileLimit;
+/// assert_eq!((TileLimit::WALL.cols, TileLimit::WALL.rows), (64, 64));
+/// assert_eq!((TileLimit::PANEL.cols, TileLimit::PANEL.rows), (16, 8));
+/// ```
+#[derive(Debug, Clone, Copy, PartialEq, Eq)]
+pub struct TileLimit {
+    /// The most columns.
+    pub cols: u8,
+    /// The most rows.
+    pub rows: u8,
+}
+
+impl TileLimit {
+    /// A viewer on a wall: every layout is within it.
+    pub const WALL: Self = Self { cols: 64, rows: 64 };
+    /// A handheld panel.
+    pub const PANEL: Self = Self { cols: 16, rows: 8 };
+}
+
 /// A sequence header.
 #[derive(Debug, Clone, Default, PartialEq)]
 pub struct SequenceHeader {

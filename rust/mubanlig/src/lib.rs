@@ -48,10 +48,10 @@ pub use getbits::{GetBits, Place};
 pub use headers::{
     AdaptiveBoolean, CropInfo, FhTiling, FrameHeader, FrameType, MAX_SEGMENTS, MAX_TILE_COLS,
     MAX_TILE_ROWS, PixelLayout, SegmentationDataSet, SeqSegmentation, SeqTiling, SequenceHeader,
-    TileInfo,
+    TileInfo, TileLimit,
 };
 pub use obu::{
     parse_seg_info, parse_seq_hdr, parse_tile_info, parse_tile_info_frmhdr,
-    parse_tile_info_frmhdr_parts,
+    parse_tile_info_frmhdr_parts, parse_tile_info_frmhdr_within, parse_tile_info_within,
 };
 pub use rectangles::tile_rectangles;

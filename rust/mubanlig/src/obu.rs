@@ -3,7 +3,9 @@
 use crate::error::{Error, answer};
 use crate::ffi;
 use crate::getbits::GetBits;
-use crate::headers::{FrameHeader, FrameType, SegmentationDataSet, SequenceHeader, TileInfo};
+use crate::headers::{
+    FrameHeader, FrameType, SegmentationDataSet, SequenceHeader, TileInfo, TileLimit,
+};
 
 /// Reads the features of 8 segments, or of 16 with the extension. The masks are added to those of `seg`, by OR.
 ///
@@ -71,9 +73,87 @@ pub fn parse_tile_info(
     level: u8,
     tier: u8,
 ) -> Result<(), Error> {
+    read_layout(thdr, gb, sbmul, sb128, seq_sb128, w, h, level, tier, None)
+}
+
+/// As [`parse_tile_info`], for a viewer that can show only so many columns and rows. A layout that is read and has more is
+/// refused: `thdr` is left as it was, and the reader stands behind the layout.
+///
+/// # Errors
+///
+/// As those of [`parse_tile_info`], which come first; then [`TooManyTiles`](Error::TooManyTiles) if the layout has more
+/// columns or more rows than the limit.
+///
+/// ```
+/// use mubanlig::{Error, GetBits, TileInfo, TileLimit, parse_tile_info_within};
+///
+/// // 4096 samples without data: 64 columns, which a wall shows.
+/// let mut wall = GetBits::new(&[]);
+/// let mut layout = TileInfo::default();
+/// parse_tile_info_within(&mut layout, &mut wall, 1, 0, 0, 4096, 64, 0, 0, TileLimit::WALL)?;
+/// assert_eq!(layout.cols, 64);
+///
+/// // A panel doesn't. The record is left as it was, and the reader is where the wall's reading leaves it.
+/// let mut panel = GetBits::new(&[]);
+/// let mut layout = TileInfo { cols: 3, ..Default::default() };
+/// let given = layout.clone();
+/// let refusal =
+///     parse_tile_info_within(&mut layout, &mut panel, 1, 0, 0, 4096, 64, 0, 0, TileLimit::PANEL);
+/// assert_eq!(refusal, Err(Error::TooManyTiles));
+/// assert_eq!(layout, given);
+/// assert_eq!(panel.place(), wall.place());
+///
+/// // 16 columns and 8 rows are not too many.
+/// let mut gb = GetBits::new(&[]);
+/// parse_tile_info_within(&mut layout, &mut gb, 1, 0, 0, 1024, 512, 0, 0, TileLimit::PANEL)?;
+/// assert_eq!((layout.cols, layout.rows), (16, 8));
+/// # Ok::<(), mubanlig::Error>(())
+/// ```
+#[allow(clippy::too_many_arguments)]
+pub fn parse_tile_info_within(
+    thdr: &mut TileInfo,
+    gb: &mut GetBits,
+    sbmul: i32,
+    sb128: u8,
+    seq_sb128: u8,
+    w: i32,
+    h: i32,
+    level: u8,
+    tier: u8,
+    limit: TileLimit,
+) -> Result<(), Error> {
+    read_layout(
+        thdr,
+        gb,
+        sbmul,
+        sb128,
+        seq_sb128,
+        w,
+        h,
+        level,
+        tier,
+        Some(limit),
+    )
+}
+
+/// Within the limit, if there is one.
+#[inline]
+#[allow(clippy::too_many_arguments)]
+fn read_layout(
+    thdr: &mut TileInfo,
+    gb: &mut GetBits,
+    sbmul: i32,
+    sb128: u8,
+    seq_sb128: u8,
+    w: i32,
+    h: i32,
+    level: u8,
+    tier: u8,
+    limit: Option<TileLimit>,
+) -> Result<(), Error> {
     let (data, position, error) = gb.parts();
     answer(ffi::parse_tile_info(
-        data, position, error, thdr, sbmul, sb128, seq_sb128, w, h, level, tier,
+        data, position, error, thdr, sbmul, sb128, seq_sb128, w, h, level, tier, limit,
     ))
 }
 
@@ -144,7 +224,65 @@ pub fn parse_tile_info_frmhdr(
     seqhdr: &SequenceHeader,
     gb: &mut GetBits,
 ) -> Result<(), Error> {
-    parse_tile_info_frmhdr_parts(
+    read_frame(hdr, seqhdr, gb, None)
+}
+
+/// As [`parse_tile_info_frmhdr`], for a viewer that can show only so many columns and rows: a layout with more is refused,
+/// whether it was read or is the sequence's. Then `hdr` is left as it was, and the reader is where
+/// [`parse_tile_info_frmhdr`] leaves it.
+///
+/// # Errors
+///
+/// As those of [`parse_tile_info_frmhdr`], which come first; then [`TooManyTiles`](Error::TooManyTiles) if the layout has
+/// more columns or more rows than the limit.
+///
+/// ```
+/// use mubanlig::{
+///     AdaptiveBoolean, Error, FrameHeader, FrameType, GetBits, SequenceHeader, TileLimit,
+///     parse_tile_info, parse_tile_info_frmhdr_within,
+/// };
+///
+/// // A sequence of 17 columns, which its frames reuse.
+/// let mut seqhdr = SequenceHeader { max_width: 1088, max_height: 64, ..Default::default() };
+/// seqhdr.tiling.present = AdaptiveBoolean::On;
+/// let t = &mut seqhdr.tiling.t;
+/// parse_tile_info(t, &mut GetBits::new(&[]), 1, 0, 0, 1088, 64, 0, 0)?;
+/// assert_eq!(t.cols, 17);
+///
+/// let mut hdr = FrameHeader {
+///     frame_type: FrameType::Inter,
+///     width: 1088,
+///     height: 64,
+///     ..Default::default()
+/// };
+/// let given = hdr.clone();
+/// let gb = &mut GetBits::new(&[]);
+/// let refusal = parse_tile_info_frmhdr_within(&mut hdr, &seqhdr, gb, TileLimit::PANEL);
+/// assert_eq!(refusal, Err(Error::TooManyTiles));
+/// assert_eq!(hdr, given);
+///
+/// parse_tile_info_frmhdr_within(&mut hdr, &seqhdr, gb, TileLimit { cols: 17, rows: 1 })?;
+/// assert_eq!(hdr.tiling.t, seqhdr.tiling.t);
+/// # Ok::<(), mubanlig::Error>(())
+/// ```
+pub fn parse_tile_info_frmhdr_within(
+    hdr: &mut FrameHeader,
+    seqhdr: &SequenceHeader,
+    gb: &mut GetBits,
+    limit: TileLimit,
+) -> Result<(), Error> {
+    read_frame(hdr, seqhdr, gb, Some(limit))
+}
+
+/// Within the limit, if there is one.
+#[inline]
+fn read_frame(
+    hdr: &mut FrameHeader,
+    seqhdr: &SequenceHeader,
+    gb: &mut GetBits,
+    limit: Option<TileLimit>,
+) -> Result<(), Error> {
+    read_frame_parts(
         hdr.frame_type,
         hdr.width,
         hdr.height,
@@ -152,6 +290,7 @@ pub fn parse_tile_info_frmhdr(
         &mut hdr.tiling.t,
         seqhdr,
         gb,
+        limit,
     )
 }
 
@@ -184,8 +323,24 @@ pub fn parse_tile_info_frmhdr_parts(
     seqhdr: &SequenceHeader,
     gb: &mut GetBits,
 ) -> Result<(), Error> {
+    read_frame_parts(frame_type, width, height, sb128, tiling, seqhdr, gb, None)
+}
+
+/// Within the limit, if there is one.
+#[inline]
+#[allow(clippy::too_many_arguments)]
+fn read_frame_parts(
+    frame_type: FrameType,
+    width: i32,
+    height: i32,
+    sb128: &mut u8,
+    tiling: &mut TileInfo,
+    seqhdr: &SequenceHeader,
+    gb: &mut GetBits,
+    limit: Option<TileLimit>,
+) -> Result<(), Error> {
     let (data, position, error) = gb.parts();
     answer(ffi::parse_tile_info_frmhdr(
-        data, position, error, frame_type, width, height, sb128, tiling, seqhdr,
+        data, position, error, frame_type, width, height, sb128, tiling, seqhdr, limit,
     ))
 }

@@ -31,16 +31,25 @@ fn renumbered(number: u8) -> Vec<u8> {
 }
 
 #[test]
-fn the_library_is_whole_and_of_the_interface() {
-    assert_eq!(check(&library(), MARK, 2), Ok(()));
+fn the_libraries_are_whole_and_of_the_interface() {
+    for (name, mark) in [
+        ("libcapi_bits.a", "mubanlig_bits_interface_"),
+        ("libcapi.a", MARK),
+        ("libcapi_within.a", "mubanlig_within_interface_"),
+    ] {
+        let path = Path::new(env!("MUBANLIG_LIBRARIES")).join(name);
+        assert_eq!(check(&fs::read(path).unwrap(), mark, 2), Ok(()), "{name}");
+    }
 }
 
 #[test]
 fn another_interface_is_said() {
     let fault = check(&renumbered(b'3'), MARK, 2).unwrap_err();
     assert_eq!(fault.to_string(), "has interface 3, and this crate needs 2");
-    let fault = check(&library(), "mubanlig_bits_interface_", 2).unwrap_err();
-    assert_eq!(fault, Fault::NoInterface { needed: 2 });
+    for mark in ["mubanlig_bits_interface_", "mubanlig_within_interface_"] {
+        let fault = check(&library(), mark, 2).unwrap_err();
+        assert_eq!(fault, Fault::NoInterface { needed: 2 });
+    }
 }
 
 #[test]

@@ -37,6 +37,7 @@ fn compiled(variable: &str, default: &str, language: [&str; 3]) -> Option<PathBu
             env!("MUBANLIG_LIBRARIES"),
             "-lcapi_bits",
             "-lcapi",
+            "-lcapi_within",
             "-o",
         ])
         .arg(&program)

@@ -2,7 +2,8 @@
 
 use mubanlig::{
     AdaptiveBoolean, Error, FrameHeader, FrameType, GetBits, PixelLayout, Place, SequenceHeader,
-    TileInfo, parse_seq_hdr, parse_tile_info, parse_tile_info_frmhdr, parse_tile_info_frmhdr_parts,
+    TileInfo, TileLimit, parse_seq_hdr, parse_tile_info, parse_tile_info_frmhdr,
+    parse_tile_info_frmhdr_parts, parse_tile_info_frmhdr_within, parse_tile_info_within,
     tile_rectangles,
 };
 
@@ -61,6 +62,141 @@ fn a_refused_layout_is_left_as_it_was() {
     let read = parse_tile_info(&mut t, &mut GetBits::new(&[]), 1, 0, 0, 4160, 64, 0, 0);
     assert_eq!(read, Err(Error::InvalidTileInfo));
     assert_eq!(t, given);
+}
+
+/// A layout of so many superblocks across and down without data, each a tile of its own, over a record with old numbers:
+/// within a limit, and as it was and is without one.
+fn limited(across: i32, down: i32, limit: TileLimit) -> [(Result<(), Error>, TileInfo, Place); 2] {
+    let given = TileInfo {
+        uniform: true,
+        min_log2_rows: 200,
+        rows: 9,
+        col_start_sb: Box::new([77; 65]),
+        ..Default::default()
+    };
+    let (w, h) = (64 * across, 64 * down);
+    let read = |limit: Option<TileLimit>| {
+        let mut t = given.clone();
+        let mut gb = GetBits::new(&[]);
+        let answer = match limit {
+            Some(limit) => parse_tile_info_within(&mut t, &mut gb, 1, 0, 0, w, h, 0, 0, limit),
+            None => parse_tile_info(&mut t, &mut gb, 1, 0, 0, w, h, 0, 0),
+        };
+        if answer.is_err() {
+            assert_eq!(t, given);
+        }
+        (answer, t, gb.place())
+    };
+    [read(Some(limit)), read(None)]
+}
+
+/// The panel's edges, each by itself and both.
+#[test]
+fn layouts_within_the_panel() {
+    for (across, down, many) in [
+        (16, 8, false),
+        (17, 8, true),
+        (16, 9, true),
+        (17, 9, true),
+        (1, 1, false),
+        (1, 64, true),
+        (64, 1, true),
+        (15, 7, false),
+    ] {
+        let [panel, wall] = limited(across, down, TileLimit::PANEL);
+        assert_eq!(
+            (i32::from(wall.1.cols), i32::from(wall.1.rows)),
+            (across, down)
+        );
+        assert_eq!(panel.2, wall.2);
+        if many {
+            assert_eq!(panel.0, Err(Error::TooManyTiles));
+        } else {
+            assert_eq!(panel, wall);
+        }
+    }
+}
+
+#[test]
+fn any_numbers_are_a_limit() {
+    for (cols, rows, many) in [
+        (3, 2, false),
+        (2, 2, true),
+        (3, 1, true),
+        (0, 255, true),
+        (255, 0, true),
+        (0, 0, true),
+        (255, 255, false),
+        (64, 64, false),
+    ] {
+        let [within, wall] = limited(3, 2, TileLimit { cols, rows });
+        assert_eq!(
+            within.0,
+            if many {
+                Err(Error::TooManyTiles)
+            } else {
+                Ok(())
+            }
+        );
+        assert_eq!(within.2, wall.2);
+    }
+    assert_eq!(Error::TooManyTiles.number(), 6);
+}
+
+/// 2 and 4 come before 6, also within no columns and no rows.
+#[test]
+fn other_refusals_come_before_too_many_tiles() {
+    let none = TileLimit { cols: 0, rows: 0 };
+    for (across, refusal) in [(65, Error::InvalidTileInfo), (0, Error::WrongArguments)] {
+        let [within, wall] = limited(across, 1, none);
+        assert_eq!(within, wall);
+        assert_eq!(within.0, Err(refusal));
+    }
+}
+
+/// A frame that reuses 17 columns and 9 rows, and one that reads 17 columns and a row: the limit is asked of both.
+#[test]
+fn frames_within_a_limit() {
+    let mut seqhdr = SequenceHeader {
+        max_width: 17 * 64,
+        max_height: 9 * 64,
+        ..Default::default()
+    };
+    seqhdr.tiling.present = AdaptiveBoolean::On;
+    seqhdr.tiling.t = layout([0, 0], 17 * 64, 9 * 64, &[]).0.unwrap();
+    assert_eq!((seqhdr.tiling.t.cols, seqhdr.tiling.t.rows), (17, 9));
+    for (height, rows) in [(9 * 64, 9), (64, 1)] {
+        let given = FrameHeader {
+            frame_type: FrameType::Inter,
+            width: 17 * 64,
+            height,
+            sb128: 9,
+            ..Default::default()
+        };
+        let mut wall = given.clone();
+        let mut gb = GetBits::new(&[0]);
+        parse_tile_info_frmhdr(&mut wall, &seqhdr, &mut gb).unwrap();
+        assert_eq!((wall.tiling.t.cols, wall.tiling.t.rows), (17, rows));
+        let end = gb.place();
+        let reused = rows == 9;
+        assert_eq!(end == Place::default(), reused);
+        for (limit, many) in [
+            ((17, rows), false),
+            ((16, rows), true),
+            ((17, rows - 1), true),
+        ] {
+            let limit = TileLimit {
+                cols: limit.0,
+                rows: limit.1,
+            };
+            let mut hdr = given.clone();
+            let mut gb = GetBits::new(&[0]);
+            let answer = parse_tile_info_frmhdr_within(&mut hdr, &seqhdr, &mut gb, limit);
+            assert_eq!(gb.place(), end);
+            assert_eq!(answer.is_err(), many);
+            assert_eq!(hdr, if many { given.clone() } else { wall.clone() });
+        }
+    }
 }
 
 #[test]

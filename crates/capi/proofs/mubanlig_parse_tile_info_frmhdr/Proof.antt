@@ -1,29 +1,27 @@
 -- `capi::mubanlig_parse_tile_info_frmhdr` meets its contract. Assumes nothing.
-use mathlib.Core.Bool.{true, false, _&&_}
+use mathlib.Core.Bool.{Bool, true, _&&_}
 use mathlib.Core.Path.{_≡_, refl, sym, ap, subst, _∙_}
 use native.Mathlib.Omega.{arith}
 use borrow.Author.Needs.{needs}
 use borrow.Author.Tests.{not-true, not-false}
 use mir.Facts.{toZ-ofZ}
-use Rattle.answers.specs.Numbers.{isRefusal}
 use Rattle.answers.specs.declared.Answer.the-variants.{WrongArguments}
 use Rattle.getbits.proofs.Callers.{as-read, read-none}
 use Rattle.getbits.proofs.Chain.{through, taken, left, both}
-use Rattle.getbits.specs.Chain.{pick}
 use Rattle.getbits.specs.declared.Number.{Number}
 use Rattle.getbits.specs.declared.Place.{Place}
 use Rattle.lent.specs.Lent.{placeOf}
 use Rattle.frame_hdr.proofs.Fresh.{fresh-demand-3}
-use Rattle.frame_hdr.specs.Frame.{FreshDemand3, parseTileInfoFrmhdr}
+use Rattle.frame_hdr.specs.Frame.{FreshDemand3, parseTileInfoFrmhdr, frameTiles}
 use Rattle.frame_hdr.specs.declared.FrameHeader.{FrameHeader}
 use Rattle.frame_hdr.specs.declared.SeqLayout.{SeqLayout}
-use Rattle.flat.specs.Layout.{Buffers, buffers, hasRoom, putLayout}
-use Rattle.capi.specs.Calls.{answered, isKnown, frameGiven, seqGiven, lentFrame}
-use Rattle.capi.proofs.Left.{row, triple, first-fails, second-fails, both-hold, contrary, accepted-0, demand3-left}
+use Rattle.flat.specs.Layout.{Buffers, buffers, hasRoom}
+use Rattle.lent_tiles.specs.Calls.{answered, handedFrame, isKnown, frameGiven, seqGiven, lentFrames, lentFrame}
+use Rattle.lent_tiles.proofs.Left.{row, triple, first-fails, second-fails, both-hold, contrary, frame-number, code-kept, frame-kept, demand3-left}
 use Rattle.capi.proofs.mubanlig_parse_tile_info_frmhdr.Statement.{statement}
 use Rattle.capi.proofs.mubanlig_parse_tile_info_frmhdr.Tie as tie
 
--- the buffers lent, and the records in them
+-- the buffers lent, the records in them, and the place
 abbrev own : tie.Start → Buffers
 own s = buffers (s .args .info .now) (s .args .col-start-sb .now) (s .args .row-start-sb .now)
 
@@ -40,6 +38,9 @@ sequence s =
 abbrev place : tie.Start → Place
 place s = placeOf (s .args .position .now) (s .args .error .now)
 
+abbrev known-type : tie.Start → Bool
+known-type s = isKnown (s .args .frame-type) (s .args .present)
+
 abbrev start : tie.After-frame-layout → tie.Start
 start k = k .before .before .before .before .before .before .before .before .before .before .before .before .before .before .before .before .before .before .before .before .before .before .before .before .before .before
 
@@ -50,7 +51,10 @@ roomy k =
     both-hold _ _ (sym (e .before .has-room .ensures) ∙ not-false (e .before .has-room .result) (e .if1 .left))
     (sym (k .before .has-room2 .ensures) ∙ not-false (k .before .has-room2 .result) (k .if2 .left))
 
-known : (k : tie.After-frame-layout) → isKnown (start k .args .frame-type) (start k .args .present) ≡ true
+room : (k : tie.After-frame-layout) → hasRoom (own (start k)) && hasRoom (theirs (start k)) ≡ true
+room k = roomy (k .before .before .before .before .before .before .before .before .before .before .before .before)
+
+known : (k : tie.After-frame-layout) → known-type (start k) ≡ true
 known k =
     let e = k .before .before .before .before .before .before .before in
     sym (e .before .is-known .ensures) ∙ not-false (e .before .is-known .result) (e .if3 .left)
@@ -67,31 +71,29 @@ demand k =
 
 -- what the definition says, once the layout is read
 meaning : (k : tie.After-frame-layout)
-    → lentFrame (start k .args .s .now) (start k .args .position .now) (start k .args .error .now) (own (start k)) (theirs (start k)) (isKnown (start k .args .frame-type) (start k .args .present)) (header (start k)) (sequence (start k))
-    ≡ (
-      answered (k .frame-layout .result .answer) (k .frame-layout .result .next) (start k .args .error .now),
-      pick (isRefusal (k .frame-layout .result .answer)) (start k .args .sb128 .now) (k .frame-layout .result .hdr .sb128),
-      pick (isRefusal (k .frame-layout .result .answer)) (own (start k)) (putLayout (k .frame-layout .result .hdr .tiling) (own (start k))),
-    )
-unfolding lentFrame
-meaning k = taken _ _ _ (roomy (k .before .before .before .before .before .before .before .before .before .before .before .before)) ∙ taken _ _ _ (known k) ∙ through _ _ (read k)
+    → lentFrame (start k .args .s .now) (start k .args .position .now) (start k .args .error .now) (own (start k)) (theirs (start k)) (known-type (start k)) (header (start k)) (sequence (start k))
+    ≡ handedFrame (k .frame-layout .result) (start k .args .error .now) (start k .args .sb128 .now) (own (start k))
+unfolding lentFrames
+meaning k = taken _ _ _ (room k) ∙ taken _ _ _ (known k) ∙ through _ _ (read k)
 
 returns : tie.Need-returns
-unfolding lentFrame
+unfolding lentFrames
 returns c =
+    let s = c .before .before .before .before .before .before .before .before .before .before .before .before in
     let lacks = sym (c .before .has-room .ensures) ∙ not-true (c .before .has-room .result) (c .if1 .taken) in
-    let fails = first-fails _ (hasRoom (theirs (c .before .before .before .before .before .before .before .before .before .before .before .before))) lacks in
+    let fails = first-fails _ (hasRoom (theirs s)) lacks in
     (sym (left _ _ _ fails), (λ _. refl, (λ _. refl, (λ _. refl, (λ _. refl, λ h _. contrary h fails)))))
 
 returns-2 : tie.Need-returns-2
-unfolding lentFrame
+unfolding lentFrames
 returns-2 c =
+    let s = c .before .before .before .before .before .before .before .before .before .before .before .before .before .before in
     let lacks = sym (c .before .has-room2 .ensures) ∙ not-true (c .before .has-room2 .result) (c .if2 .taken) in
-    let fails = second-fails (hasRoom (own (c .before .before .before .before .before .before .before .before .before .before .before .before .before .before))) _ lacks in
+    let fails = second-fails (hasRoom (own s)) _ lacks in
     (sym (left _ _ _ fails), (λ _. refl, (λ _. refl, (λ _. refl, (λ _. refl, λ h _. contrary h fails)))))
 
 returns-3 : tie.Need-returns-3
-unfolding lentFrame
+unfolding lentFrames
 returns-3 c =
     let r = c .before .before .before in
     let b = r .before in
@@ -109,34 +111,19 @@ returns-3 c =
 
 returns-4 : tie.Need-returns-4
 returns-4 c =
-    let q = c .before .before .before in
-    let k = q .before .before .before .before in
+    let d = c .before .before .before .before .before .before in
+    let k = d .before .before .before .before .before .before .before in
     let s = start k in
     let x = k .frame-layout .result in
-    let refused : isRefusal (x .answer) ≡ true = sym (c .before .before .is-refusal .ensures) ∙ c .before .if4 .taken in (
-      triple (row (x .answer) (x .next) (s .args .error .now) (c .number .ensures) (q .put-place2 .ensures))
-          (sym (taken (isRefusal (x .answer)) (s .args .sb128 .now) (x .hdr .sb128) refused))
-          (sym (taken (isRefusal (x .answer)) (own s) (putLayout (x .hdr .tiling) (own s)) refused))
-          ∙ sym (meaning k),
-      (λ _. refl, (λ _. refl, (λ _. refl, (λ _. refl, λ _ _ d f. demand3-left (record { answer = x .answer; info = x .hdr .tiling; next = x .next }) (c .number .result) (own s) (c .number .ensures) (λ h. contrary refused h) (demand k d f))))),
-    )
-
-returns-5 : tie.Need-returns-5
-returns-5 c =
-    let t = c .before .before .before .before .before .before in
-    let e = t .before .before .before .before in
-    let q = e .before .before in
-    let k = q .before .before .before .before in
-    let s = start k in
-    let x = k .frame-layout .result in
-    let put = t .put-tile-info .ensures in
-    let fine : isRefusal (x .answer) ≡ false = sym (e .before .is-refusal .ensures) ∙ e .if4 .left in
-    let room = both (hasRoom (own s)) (hasRoom (theirs s)) (roomy (k .before .before .before .before .before .before .before .before .before .before .before .before)) .0 in (
-      triple (row (x .answer) (x .next) (s .args .error .now) (accepted-0 (x .answer) fine) (q .put-place2 .ensures))
-          (sym (left (isRefusal (x .answer)) (s .args .sb128 .now) (x .hdr .sb128) fine))
-          (put .0 ∙ sym (left (isRefusal (x .answer)) (own s) (putLayout (x .hdr .tiling) (own s)) fine))
-          ∙ sym (meaning k),
-      (λ h. absurd (h refl), (λ h. absurd (h refl), (λ h. absurd (h refl), (λ h. absurd (h refl), λ _ _ d f. demand3-left (record { answer = x .answer; info = x .hdr .tiling; next = x .next }) 0 _ (accepted-0 (x .answer) fine) (λ _. put .1 room) (demand k d f))))),
+    let back = d .hand-back-frame .ensures in
+    let number = frame-number x (s .args .error .now) (s .args .sb128 .now) (own s) (back .0) in
+    let kept = frame-kept x (s .args .error .now) (s .args .sb128 .now) (own s) (back .0) in
+    let info = back .1 (both (hasRoom (own s)) (hasRoom (theirs s)) (room k) .0) in (
+      back .0 ∙ sym (meaning k),
+      (
+        code-kept x (s .args .error .now) (s .args .sb128 .now) (own s) (back .0),
+        (λ n. ap (λ (b : Buffers). b .bytes) (kept n), (λ n. ap (λ (b : Buffers). b .col-starts) (kept n), (λ n. ap (λ (b : Buffers). b .row-starts) (kept n), λ _ _ a f. demand3-left (frameTiles x) _ _ number info (demand k a f)))),
+      ),
     )
 
 pub mubanlig-parse-tile-info-frmhdr-spec : {M : Type 1} → statement M
@@ -165,14 +152,7 @@ mubanlig-parse-tile-info-frmhdr-spec =
     (λ c κs. search needs)
     (λ c κs. search needs)
     (λ c κs. search needs)
-    (λ c κs. search needs)
-    (λ c κs. search needs)
     (λ c. search needs)
     (λ c. search needs)
     (λ c. search needs)
-    returns-4
-    (λ c κs. search needs)
-    (λ c. search needs)
-    (λ c. search needs)
-    (λ c. search needs)
-    returns-5)
+    returns-4)

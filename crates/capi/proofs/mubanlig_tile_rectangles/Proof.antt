@@ -12,7 +12,7 @@ use Rattle.getbits.proofs.Chain.{taken, left}
 use Rattle.rectangles.specs.Rectangles.{Outcome}
 use Rattle.flat.specs.Layout.{Buffers, buffers, hasRoom, layoutIn}
 use Rattle.capi.specs.Calls.{lentRectangles}
-use Rattle.capi.proofs.Left.{refused-unless-0}
+use Rattle.answers.proofs.Numbers.{refused-unless-0}
 use Rattle.capi.proofs.mubanlig_tile_rectangles.Statement.{statement}
 use Rattle.capi.proofs.mubanlig_tile_rectangles.Tie as tie
 

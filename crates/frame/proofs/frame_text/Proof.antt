@@ -7,7 +7,7 @@ use Rattle.frame.proofs.frame_text.Tie as tie
 
 returns : tie.Need-returns
 unfolding frameText
-returns c = rw (← c .before .request .ensures) (stands (search needs) (c .put-read .ensures))
+returns c = rw (← c .before .frame-request .ensures) (stands (search needs) (c .put-frame-read .ensures))
 
 pub frame-text-spec : {M : Type 1} → statement M
 frame-text-spec = tie.close (tie.spec (λ c κs. search needs) (λ c κs. search needs) returns)

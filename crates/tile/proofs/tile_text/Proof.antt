@@ -7,7 +7,7 @@ use Rattle.tile.proofs.tile_text.Tie as tie
 
 returns : tie.Need-returns
 unfolding tileText
-returns c = rw (← c .before .request .ensures) (stands (search needs) (c .put-read .ensures))
+returns c = rw (← c .before .tile-request .ensures) (stands (search needs) (c .put-tile-read .ensures))
 
 pub tile-text-spec : {M : Type 1} → statement M
 tile-text-spec = tie.close (tie.spec (λ c κs. search needs) (λ c κs. search needs) returns)

@@ -21,13 +21,19 @@ pub fn add(list: &mut Vec<Case>, seed: u64) {
     add.limits();
     add.layout_arguments();
     add.frame_arguments();
-    add.short_buffers();
+    add.short_buffers(&[
+        Kind::ParseTileInfo,
+        Kind::ParseSeqHdr,
+        Kind::ParseTileInfoFrmhdr,
+        Kind::ParseSegInfo,
+        Kind::TileRectangles,
+    ]);
     add.rectangles();
 }
 
-struct Adder<'a> {
-    list: &'a mut Vec<Case>,
-    rng: &'a mut Rng,
+pub struct Adder<'a> {
+    pub list: &'a mut Vec<Case>,
+    pub rng: &'a mut Rng,
 }
 
 impl Adder<'_> {
@@ -190,14 +196,8 @@ impl Adder<'_> {
     }
 
     /// Each lent buffer of each function one too short, and each longer than it has to be.
-    fn short_buffers(&mut self) {
-        for kind in [
-            Kind::ParseTileInfo,
-            Kind::ParseSeqHdr,
-            Kind::ParseTileInfoFrmhdr,
-            Kind::ParseSegInfo,
-            Kind::TileRectangles,
-        ] {
+    pub fn short_buffers(&mut self, kinds: &[Kind]) {
+        for &kind in kinds {
             let full = kind.full_lengths();
             for at in 0..full.len() {
                 for len in [0, 1, full[at] - 1, full[at] + 1] {

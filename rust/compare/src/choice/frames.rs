@@ -22,7 +22,7 @@ pub fn add(list: &mut Vec<Case>, seed: u64) {
 }
 
 /// The code of a frame's superblocks: key and intra frames have at most 1.
-fn frame_code(frame_type: i64, code: i64) -> i64 {
+pub fn frame_code(frame_type: i64, code: i64) -> i64 {
     if frame_type % 2 == 1 {
         code
     } else {
@@ -31,21 +31,21 @@ fn frame_code(frame_type: i64, code: i64) -> i64 {
 }
 
 /// A sequence that a frame may take its layout from.
-struct Sequence {
+pub struct Sequence {
     code: i64,
     size: [i64; 2],
-    level: [i64; 2],
-    present: i64,
+    pub level: [i64; 2],
+    pub present: i64,
     layout: Vec<i64>,
 }
 
-struct Adder<'a> {
-    list: &'a mut Vec<Case>,
-    rng: &'a mut Rng,
+pub struct Adder<'a> {
+    pub list: &'a mut Vec<Case>,
+    pub rng: &'a mut Rng,
 }
 
 impl Adder<'_> {
-    fn case(&mut self, frame_type: i64, size: [i64; 2], seq: Sequence) {
+    pub fn case(&mut self, frame_type: i64, size: [i64; 2], seq: Sequence) {
         if size
             .iter()
             .chain(&seq.size)
@@ -86,7 +86,7 @@ impl Adder<'_> {
     }
 
     /// A layout made by hand with these logarithms; few starts behind it.
-    fn layout(&mut self, uniform: i64, logs: [i64; 2]) -> Vec<i64> {
+    pub fn layout(&mut self, uniform: i64, logs: [i64; 2]) -> Vec<i64> {
         let mut row = Vec::new();
         layout_by_hand(self.rng, &mut row);
         row[0] = uniform;
@@ -104,7 +104,7 @@ impl Adder<'_> {
         row
     }
 
-    fn sequence(&mut self, code: i64, size: [i64; 2], layout: Vec<i64>) -> Sequence {
+    pub fn sequence(&mut self, code: i64, size: [i64; 2], layout: Vec<i64>) -> Sequence {
         Sequence {
             code,
             size,

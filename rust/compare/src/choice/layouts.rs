@@ -38,9 +38,9 @@ fn limits(code: i64, level: i64, tier: i64) -> (i64, i64) {
     )
 }
 
-struct Adder<'a> {
-    list: &'a mut Vec<Case>,
-    rng: &'a mut Rng,
+pub struct Adder<'a> {
+    pub list: &'a mut Vec<Case>,
+    pub rng: &'a mut Rng,
 }
 
 impl Adder<'_> {
@@ -66,7 +66,7 @@ impl Adder<'_> {
         row
     }
 
-    fn case(&mut self, pair: [i64; 3], size: [i64; 2], level: [i64; 2], bits: BitWriter) {
+    pub fn case(&mut self, pair: [i64; 3], size: [i64; 2], level: [i64; 2], bits: BitWriter) {
         if size.iter().any(|n| !(1..=LARGEST).contains(n)) {
             return;
         }
@@ -94,7 +94,7 @@ impl Adder<'_> {
     }
 
     /// Uniform: so many steps for the columns, and for the rows, if the logarithms can grow so far.
-    fn uniform(&mut self, cols: u64, rows: u64) -> BitWriter {
+    pub fn uniform(&mut self, cols: u64, rows: u64) -> BitWriter {
         let mut bits = BitWriter::default();
         bits.bit(true);
         bits.bits(u64::MAX, cols as u32);
@@ -106,7 +106,7 @@ impl Adder<'_> {
     }
 
     /// Not uniform: sizes told by ones, by zeros, or by any bits.
-    fn told(&mut self, way: u64, len: u32) -> BitWriter {
+    pub fn told(&mut self, way: u64, len: u32) -> BitWriter {
         let mut bits = BitWriter::default();
         bits.bit(false);
         for _ in 0..len {
@@ -121,7 +121,7 @@ impl Adder<'_> {
         bits
     }
 
-    fn level(&mut self) -> [i64; 2] {
+    pub fn level(&mut self) -> [i64; 2] {
         [self.rng.pick(&LEVELS), self.rng.range(0, 1)]
     }
 

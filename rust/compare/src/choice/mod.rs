@@ -10,6 +10,7 @@ mod headers;
 mod layouts;
 mod readings;
 mod segments;
+mod within;
 
 use crate::case::{Case, Outcome};
 use crate::kind::Kind;
@@ -27,6 +28,7 @@ pub fn cases(seed: u64) -> Vec<Case> {
     headers::add(&mut list, seed);
     frames::add(&mut list, seed);
     by_rule::add(&mut list, seed);
+    within::add(&mut list, seed);
     list
 }
 

@@ -7,6 +7,7 @@ mod frames;
 pub mod header;
 pub mod layouts;
 mod readings;
+pub mod within;
 
 use crate::case::{Case, Outcome, Place, Source};
 use crate::kind::Kind;
@@ -16,6 +17,14 @@ use crate::rules::expected;
 
 /// Makes a case of the kind that `case` has, in place of what is in it.
 pub fn make(rng: &mut Rng, case: &mut Case, scratch: &mut Outcome) -> Source {
+    let source = made(rng, case, scratch);
+    if case.kind.is_limited() {
+        within::limit(rng, case, scratch);
+    }
+    source
+}
+
+fn made(rng: &mut Rng, case: &mut Case, scratch: &mut Outcome) -> Source {
     case.args.clear();
     case.data.clear();
     let mut source = Source::Random;
@@ -23,6 +32,8 @@ pub fn make(rng: &mut Rng, case: &mut Case, scratch: &mut Outcome) -> Source {
         Kind::ParseSeqHdr => source = header::case(rng, case),
         Kind::ParseTileInfo => layouts::layout_case(rng, case),
         Kind::ParseTileInfoFrmhdr => frames::case(rng, case),
+        Kind::ParseTileInfoWithin => within::layout_case(rng, case),
+        Kind::ParseTileInfoFrmhdrWithin => within::frame_case(rng, case),
         Kind::TileRectangles => layouts::rectangles_case(rng, case),
         Kind::ParseSegInfo => {
             seg_args(rng, case);

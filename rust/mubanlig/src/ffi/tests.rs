@@ -54,29 +54,43 @@ fn seg_info(delta_qs: usize, mask_count: usize) -> (u32, Lent) {
     (answer, lent)
 }
 
-fn layout(lengths: Lengths, w: i32) -> (u32, Lent) {
+/// Most columns and rows.
+type Limit = Option<[u8; 2]>;
+/// Without a limit, and within those that a call may tell.
+const LIMITS: [Limit; 4] = [None, Some([0, 0]), Some([16, 8]), Some([255, 255])];
+
+fn layout(lengths: Lengths, w: i32, limit: Limit) -> (u32, Lent) {
     let mut lent = LENT;
-    // SAFETY: the buffers are at least as long as told.
-    let answer = unsafe {
-        mubanlig_parse_tile_info(
-            DATA.as_ptr(),
-            DATA.len(),
-            &raw mut lent.place.0,
-            &raw mut lent.place.1,
-            lent.info.as_mut_ptr(),
-            lengths[0],
-            lent.cols.as_mut_ptr(),
-            lengths[1],
-            lent.rows.as_mut_ptr(),
-            lengths[2],
-            1,
-            0,
-            0,
-            w,
-            64,
-            0,
-            0,
-        )
+    macro_rules! call {
+        ($symbol:ident $(, $limit:expr)*) => {
+            // SAFETY: the buffers are at least as long as told.
+            unsafe {
+                $symbol(
+                    DATA.as_ptr(),
+                    DATA.len(),
+                    &raw mut lent.place.0,
+                    &raw mut lent.place.1,
+                    lent.info.as_mut_ptr(),
+                    lengths[0],
+                    lent.cols.as_mut_ptr(),
+                    lengths[1],
+                    lent.rows.as_mut_ptr(),
+                    lengths[2],
+                    1,
+                    0,
+                    0,
+                    w,
+                    64,
+                    0,
+                    0,
+                    $($limit,)*
+                )
+            }
+        };
+    }
+    let answer = match limit {
+        None => call!(mubanlig_parse_tile_info),
+        Some([cols, rows]) => call!(mubanlig_parse_tile_info_within, cols, rows),
     };
     (answer, lent)
 }
@@ -108,39 +122,54 @@ fn header(numbers: usize, lengths: Lengths) -> (u32, Lent) {
 const SEQ_INFO: [u8; INFO_BYTES] = [6, 0, 0, 0, 6, 0, 0, 0, 6];
 
 /// A frame of 64 by 64 samples in a sequence with that layout.
-fn frame(frame_type: u8, present: u8, lengths: Lengths, seq_lengths: Lengths) -> (u32, Lent) {
+fn frame(
+    frame_type: u8,
+    present: u8,
+    lengths: Lengths,
+    seq_lengths: Lengths,
+    limit: Limit,
+) -> (u32, Lent) {
     let mut lent = LENT;
     let starts = [0; 65];
-    // SAFETY: the buffers are at least as long as told.
-    let answer = unsafe {
-        mubanlig_parse_tile_info_frmhdr(
-            DATA.as_ptr(),
-            DATA.len(),
-            &raw mut lent.place.0,
-            &raw mut lent.place.1,
-            frame_type,
-            64,
-            64,
-            &raw mut lent.sb128,
-            lent.info.as_mut_ptr(),
-            lengths[0],
-            lent.cols.as_mut_ptr(),
-            lengths[1],
-            lent.rows.as_mut_ptr(),
-            lengths[2],
-            0,
-            64,
-            64,
-            0,
-            0,
-            present,
-            SEQ_INFO.as_ptr(),
-            seq_lengths[0],
-            starts.as_ptr(),
-            seq_lengths[1],
-            starts.as_ptr(),
-            seq_lengths[2],
-        )
+    macro_rules! call {
+        ($symbol:ident $(, $limit:expr)*) => {
+            // SAFETY: the buffers are at least as long as told.
+            unsafe {
+                $symbol(
+                    DATA.as_ptr(),
+                    DATA.len(),
+                    &raw mut lent.place.0,
+                    &raw mut lent.place.1,
+                    frame_type,
+                    64,
+                    64,
+                    &raw mut lent.sb128,
+                    lent.info.as_mut_ptr(),
+                    lengths[0],
+                    lent.cols.as_mut_ptr(),
+                    lengths[1],
+                    lent.rows.as_mut_ptr(),
+                    lengths[2],
+                    0,
+                    64,
+                    64,
+                    0,
+                    0,
+                    present,
+                    SEQ_INFO.as_ptr(),
+                    seq_lengths[0],
+                    starts.as_ptr(),
+                    seq_lengths[1],
+                    starts.as_ptr(),
+                    seq_lengths[2],
+                    $($limit,)*
+                )
+            }
+        };
+    }
+    let answer = match limit {
+        None => call!(mubanlig_parse_tile_info_frmhdr),
+        Some([cols, rows]) => call!(mubanlig_parse_tile_info_frmhdr_within, cols, rows),
     };
     (answer, lent)
 }
@@ -148,8 +177,14 @@ fn frame(frame_type: u8, present: u8, lengths: Lengths, seq_lengths: Lengths) ->
 #[test]
 fn the_libraries_are_those_of_this_interface() {
     // SAFETY: nothing is lent.
-    let numbers = unsafe { [mubanlig_bits_interface_2(), mubanlig_interface_2()] };
-    assert_eq!(numbers, [2, 2]);
+    let numbers = unsafe {
+        [
+            mubanlig_bits_interface_2(),
+            mubanlig_interface_2(),
+            mubanlig_within_interface_2(),
+        ]
+    };
+    assert_eq!(numbers, [2, 2, 2]);
 }
 
 #[test]
@@ -160,10 +195,12 @@ fn a_short_buffer_is_5_and_changes_nothing() {
     }
     assert_eq!(header(HEADER_NUMBERS - 1, LONG), refused);
     for lengths in SHORT {
-        assert_eq!(layout(lengths, 64), refused);
         assert_eq!(header(HEADER_NUMBERS, lengths), refused);
-        assert_eq!(frame(0, 0, lengths, LONG), refused);
-        assert_eq!(frame(0, 0, LONG, lengths), refused);
+        for limit in LIMITS {
+            assert_eq!(layout(lengths, 64, limit), refused);
+            assert_eq!(frame(0, 0, lengths, LONG, limit), refused);
+            assert_eq!(frame(0, 0, LONG, lengths, limit), refused);
+        }
     }
 }
 
@@ -178,14 +215,18 @@ fn at_the_end() -> Lent {
 #[test]
 fn wrong_arguments_are_4_and_change_no_buffer() {
     let refused = (4, at_the_end());
-    assert_eq!(layout(LONG, 0), refused);
-    assert_eq!(frame(4, 0, LONG, LONG), refused);
-    assert_eq!(frame(0, 3, LONG, LONG), refused);
+    for limit in LIMITS {
+        assert_eq!(layout(LONG, 0, limit), refused);
+        assert_eq!(frame(4, 0, LONG, LONG, limit), refused);
+        assert_eq!(frame(0, 3, LONG, LONG, limit), refused);
+    }
 }
 
 #[test]
 fn a_refused_layout_is_2_and_changes_no_buffer() {
-    assert_eq!(layout(LONG, 4160), (2, at_the_end()));
+    for limit in LIMITS {
+        assert_eq!(layout(LONG, 4160, limit), (2, at_the_end()));
+    }
 }
 
 #[test]
@@ -202,11 +243,28 @@ fn a_refused_header_has_the_zero_record() {
 
 #[test]
 fn an_accepted_layout_writes_a_flag_of_0_or_1() {
-    let (answer, lent) = layout(LONG, 64);
-    // Not uniform, one column and one row; the least logarithm of the rows stays.
-    assert_eq!((answer, lent.info), (0, [0, 0, 0, 0, 1, 6, 0, 0, 1]));
-    let (answer, lent) = frame(1, 1, LONG, LONG);
-    assert_eq!((answer, lent.info), (0, [1, 0, 0, 0, 6, 0, 0, 0, 6]));
+    for limit in [None, Some([1, 1]), Some([16, 8])] {
+        let (answer, lent) = layout(LONG, 64, limit);
+        // Not uniform, one column and one row; the least logarithm of the rows stays.
+        assert_eq!((answer, lent.info), (0, [0, 0, 0, 0, 1, 6, 0, 0, 1]));
+    }
+    for limit in [None, Some([6, 6]), Some([16, 8])] {
+        let (answer, lent) = frame(1, 1, LONG, LONG, limit);
+        assert_eq!((answer, lent.info), (0, [1, 0, 0, 0, 6, 0, 0, 0, 6]));
+    }
+}
+
+/// A layout of 17 columns that is read, one of 6 columns and rows that is reused: both leave the reader where it is without
+/// a limit.
+#[test]
+fn too_many_tiles_are_6_and_change_no_buffer() {
+    let refused = (6, at_the_end());
+    for limit in [[16, 8], [0, 255], [255, 0]] {
+        assert_eq!(layout(LONG, 17 * 64, Some(limit)), refused);
+    }
+    for limit in [[5, 6], [6, 5], [0, 0]] {
+        assert_eq!(frame(1, 1, LONG, LONG, Some(limit)), refused);
+    }
 }
 
 #[test]

@@ -140,19 +140,37 @@ static uint32_t seg_info(struct bytes b, struct record *r, struct lengths n, uin
     return answer;
 }
 
-static uint32_t layout(struct bytes b, struct record *r, struct lengths n, struct layout_args a)
+/* Most columns and most rows. */
+struct limit {
+    uint8_t cols, rows;
+};
+
+static const struct limit WALL = { MUBANLIG_WALL_COLS, MUBANLIG_WALL_ROWS };
+static const struct limit PANEL = { MUBANLIG_PANEL_COLS, MUBANLIG_PANEL_ROWS };
+
+/* Without a limit if it is NULL. */
+static uint32_t layout_in(struct bytes b, struct record *r, struct lengths n, struct layout_args a, const struct limit *limit)
 {
     LEND(const uint8_t, s, b.s, b.len);
     LEND(uint8_t, info, r->info, n.info);
     LEND(uint16_t, cols, r->cols, n.cols);
     LEND(uint16_t, rows, r->rows, n.rows);
-    uint32_t answer = mubanlig_parse_tile_info(s, b.len, &r->position, &r->error, info, n.info, cols, n.cols, rows, n.rows,
-        a.sbmul, a.sb128, a.seq_sb128, a.w, a.h, a.level, a.tier);
+#define GIVEN s, b.len, &r->position, &r->error, info, n.info, cols, n.cols, rows, n.rows, \
+    a.sbmul, a.sb128, a.seq_sb128, a.w, a.h, a.level, a.tier
+    uint32_t answer = limit == NULL
+        ? mubanlig_parse_tile_info(GIVEN)
+        : mubanlig_parse_tile_info_within(GIVEN, limit->cols, limit->rows);
+#undef GIVEN
     free((void *)s);
     TAKE_BACK(info, r->info, n.info);
     TAKE_BACK(cols, r->cols, n.cols);
     TAKE_BACK(rows, r->rows, n.rows);
     return answer;
+}
+
+static uint32_t layout(struct bytes b, struct record *r, struct lengths n, struct layout_args a)
+{
+    return layout_in(b, r, n, a, NULL);
 }
 
 static uint32_t header(struct bytes b, struct record *r, struct lengths n, uint8_t strict)
@@ -172,8 +190,9 @@ static uint32_t header(struct bytes b, struct record *r, struct lengths n, uint8
     return answer;
 }
 
-/* The sequence's layout is that of seq. */
-static uint32_t frame(struct bytes b, struct record *r, struct lengths n, struct frame_args a, const struct record *seq, struct lengths m)
+/* The sequence's layout is that of seq. Without a limit if it is NULL. */
+static uint32_t frame_in(struct bytes b, struct record *r, struct lengths n, struct frame_args a, const struct record *seq, struct lengths m,
+    const struct limit *limit)
 {
     LEND(const uint8_t, s, b.s, b.len);
     LEND(uint8_t, info, r->info, n.info);
@@ -182,9 +201,13 @@ static uint32_t frame(struct bytes b, struct record *r, struct lengths n, struct
     LEND(const uint8_t, seq_info, seq->info, m.info);
     LEND(const uint16_t, seq_cols, seq->cols, m.cols);
     LEND(const uint16_t, seq_rows, seq->rows, m.rows);
-    uint32_t answer = mubanlig_parse_tile_info_frmhdr(s, b.len, &r->position, &r->error, a.frame_type, a.width, a.height, &r->sb128,
-        info, n.info, cols, n.cols, rows, n.rows, a.seq_sb128, a.max_width, a.max_height, a.level, a.tier, a.present,
-        seq_info, m.info, seq_cols, m.cols, seq_rows, m.rows);
+#define GIVEN s, b.len, &r->position, &r->error, a.frame_type, a.width, a.height, &r->sb128, \
+    info, n.info, cols, n.cols, rows, n.rows, a.seq_sb128, a.max_width, a.max_height, a.level, a.tier, a.present, \
+    seq_info, m.info, seq_cols, m.cols, seq_rows, m.rows
+    uint32_t answer = limit == NULL
+        ? mubanlig_parse_tile_info_frmhdr(GIVEN)
+        : mubanlig_parse_tile_info_frmhdr_within(GIVEN, limit->cols, limit->rows);
+#undef GIVEN
     free((void *)s);
     free((void *)seq_info);
     free((void *)seq_cols);
@@ -193,6 +216,11 @@ static uint32_t frame(struct bytes b, struct record *r, struct lengths n, struct
     TAKE_BACK(cols, r->cols, n.cols);
     TAKE_BACK(rows, r->rows, n.rows);
     return answer;
+}
+
+static uint32_t frame(struct bytes b, struct record *r, struct lengths n, struct frame_args a, const struct record *seq, struct lengths m)
+{
+    return frame_in(b, r, n, a, seq, m, NULL);
 }
 
 static uint32_t rectangles(struct record *r, struct lengths n, uint8_t sb128)
@@ -268,6 +296,7 @@ static void interfaces(void)
 {
     CHECK(mubanlig_bits_interface_2() == MUBANLIG_INTERFACE);
     CHECK(mubanlig_interface_2() == MUBANLIG_INTERFACE);
+    CHECK(mubanlig_within_interface_2() == MUBANLIG_INTERFACE);
 }
 
 static void readings_of_known_bytes(void)
@@ -329,6 +358,12 @@ static void no_data(void)
     CHECK(memcmp(r.cols, zero.cols, sizeof r.cols) == 0 && memcmp(r.rows, zero.rows, sizeof r.rows) == 0);
     r = filled(0);
     CHECK(mubanlig_tile_rectangles(NULL, 0, NULL, 0, NULL, 0, 0, NULL, 0) == MUBANLIG_SHORT_BUFFER);
+    CHECK(mubanlig_parse_tile_info_within(NULL, 0, &r.position, &r.error, NULL, 0, NULL, 0, NULL, 0, 1, 0, 0, 64, 64, 0, 0,
+        MUBANLIG_PANEL_COLS, MUBANLIG_PANEL_ROWS) == MUBANLIG_SHORT_BUFFER);
+    CHECK(mubanlig_parse_tile_info_frmhdr_within(NULL, 0, &r.position, &r.error, MUBANLIG_FRAME_KEY, 64, 64, &r.sb128,
+        NULL, 0, NULL, 0, NULL, 0, 0, 64, 64, 0, 0, MUBANLIG_OFF, NULL, 0, NULL, 0, NULL, 0,
+        MUBANLIG_PANEL_COLS, MUBANLIG_PANEL_ROWS) == MUBANLIG_SHORT_BUFFER);
+    CHECK(same(&r, &zero));
 }
 
 static void a_layout_and_its_rectangles(void)
@@ -385,6 +420,76 @@ static void a_frame(void)
     CHECK(frame(none(), &r, LONG, A, &seq, LONG) == MUBANLIG_ACCEPTED);
     CHECK(r.position == 0 && r.error == 0 && r.cols[0] == 0 && r.cols[1] == 2 && r.cols[2] == 4);
     CHECK(memcmp(r.info, seq.info, sizeof r.info) == 0);
+}
+
+/* Are all but the place the same? */
+static int keeps_all(const struct record *after, const struct record *before)
+{
+    struct record r = *after;
+    r.position = before->position;
+    r.error = before->error;
+    return same(&r, before);
+}
+
+/* What a call within a limit has to give, seen from what was given and from the call without one. */
+static int limited(const struct record *given, const struct record *on_wall, uint32_t wall_answer,
+    const struct record *r, uint32_t answer, struct limit limit)
+{
+    if (wall_answer == MUBANLIG_ACCEPTED
+        && (on_wall->info[MUBANLIG_INFO_COLS] > limit.cols || on_wall->info[MUBANLIG_INFO_ROWS] > limit.rows)) {
+        return answer == MUBANLIG_TOO_MANY_TILES && keeps_all(r, given)
+            && r->position == on_wall->position && r->error == on_wall->error;
+    }
+    return answer == wall_answer && same(r, on_wall);
+}
+
+/* Layouts without data, each superblock a tile, on both sides of limits; frames that reuse 17 columns and 9 rows, and that read them. */
+static void within_limits(void)
+{
+    static const struct limit LIMITS[] = {
+        { MUBANLIG_WALL_COLS, MUBANLIG_WALL_ROWS }, { MUBANLIG_PANEL_COLS, MUBANLIG_PANEL_ROWS },
+        { 0, 0 }, { 0, 255 }, { 255, 0 }, { 255, 255 }, { 17, 9 }, { 16, 9 }, { 17, 8 }, { 1, 1 }
+    };
+    static const int32_t SIZES[][2] = { { 16, 8 }, { 17, 8 }, { 16, 9 }, { 17, 9 }, { 1, 1 }, { 64, 64 }, { 65, 1 }, { 1, 65 }, { 0, 1 } };
+    static const struct frame_args A = { MUBANLIG_FRAME_INTER, 17 * 64, 9 * 64, 0, 17 * 64, 9 * 64, 0, 0, MUBANLIG_ON };
+    struct record given = filled(0x2C), seq = filled(0), on_wall, r;
+    uint32_t wall_answer, answer;
+    size_t i, j;
+    given.position = 0;
+    given.error = 0;
+    r = given;
+    CHECK(layout_in(none(), &r, LONG, sized(4096, 64), &WALL) == MUBANLIG_ACCEPTED && r.info[MUBANLIG_INFO_COLS] == 64);
+    r = given;
+    CHECK(layout_in(none(), &r, LONG, sized(4096, 64), &PANEL) == MUBANLIG_TOO_MANY_TILES && r.error == 1 && keeps_all(&r, &given));
+    CHECK(layout(none(), &seq, LONG, sized(17 * 64, 9 * 64)) == MUBANLIG_ACCEPTED);
+    CHECK(seq.info[MUBANLIG_INFO_COLS] == 17 && seq.info[MUBANLIG_INFO_ROWS] == 9);
+    for (i = 0; i < sizeof LIMITS / sizeof LIMITS[0]; i++) {
+        for (j = 0; j < sizeof SIZES / sizeof SIZES[0]; j++) {
+            struct layout_args a = sized(64 * SIZES[j][0], 64 * SIZES[j][1]);
+            on_wall = given;
+            wall_answer = layout(none(), &on_wall, LONG, a);
+            r = given;
+            answer = layout_in(none(), &r, LONG, a, &LIMITS[i]);
+            CHECK(limited(&given, &on_wall, wall_answer, &r, answer, LIMITS[i]));
+        }
+        /* Reused, read, of no such type and of no such presence. */
+        for (j = 0; j < 4; j++) {
+            struct frame_args a = A;
+            if (j == 1) {
+                a.present = MUBANLIG_OFF;
+            } else if (j == 2) {
+                a.frame_type = 4;
+            } else if (j == 3) {
+                a.present = 3;
+            }
+            on_wall = given;
+            wall_answer = frame(none(), &on_wall, LONG, a, &seq, LONG);
+            CHECK(wall_answer == (j < 2 ? MUBANLIG_ACCEPTED : MUBANLIG_WRONG_ARGUMENTS));
+            r = given;
+            answer = frame_in(none(), &r, LONG, a, &seq, LONG, &LIMITS[i]);
+            CHECK(limited(&given, &on_wall, wall_answer, &r, answer, LIMITS[i]));
+        }
+    }
 }
 
 /* Refused calls, and what was lent comes back as it was. */
@@ -465,8 +570,9 @@ static void short_buffers(void)
 {
     static const uint8_t S[] = { 0xFF, 0xFF };
     static const struct frame_args A = { MUBANLIG_FRAME_KEY, 64, 64, 0, 64, 64, 0, 0, MUBANLIG_OFF };
+    static const struct limit NOTHING = { 0, 0 };
     struct record given = filled(1), r;
-    size_t which;
+    size_t which, i;
     /* Past the end, so that a position stored would show. */
     given.position = 1000;
     given.error = 9;
@@ -492,12 +598,15 @@ static void short_buffers(void)
         if (which < 6) {
             continue;
         }
-        r = given;
-        CHECK(layout(some(S, sizeof S), &r, n, SMALL) == MUBANLIG_SHORT_BUFFER && same(&r, &given));
-        r = given;
-        CHECK(frame(some(S, sizeof S), &r, n, A, &given, LONG) == MUBANLIG_SHORT_BUFFER && same(&r, &given));
-        r = given;
-        CHECK(frame(some(S, sizeof S), &r, LONG, A, &given, n) == MUBANLIG_SHORT_BUFFER && same(&r, &given));
+        for (i = 0; i < 2; i++) {
+            const struct limit *limit = i == 0 ? NULL : &NOTHING;
+            r = given;
+            CHECK(layout_in(some(S, sizeof S), &r, n, SMALL, limit) == MUBANLIG_SHORT_BUFFER && same(&r, &given));
+            r = given;
+            CHECK(frame_in(some(S, sizeof S), &r, n, A, &given, LONG, limit) == MUBANLIG_SHORT_BUFFER && same(&r, &given));
+            r = given;
+            CHECK(frame_in(some(S, sizeof S), &r, LONG, A, &given, n, limit) == MUBANLIG_SHORT_BUFFER && same(&r, &given));
+        }
         r = given;
         CHECK(rectangles(&r, n, 0) == MUBANLIG_SHORT_BUFFER && same(&r, &given));
     }
@@ -526,6 +635,9 @@ static void past_the_end(void)
         CHECK(r.position == 16);
         r.position = POSITIONS[i];
         CHECK(layout(some(S, sizeof S), &r, LONG, SMALL) == MUBANLIG_ACCEPTED && r.position == 16 && r.error == 1);
+        r.position = POSITIONS[i];
+        r.error = 0;
+        CHECK(layout_in(some(S, sizeof S), &r, LONG, sized(4096, 64), &PANEL) == MUBANLIG_TOO_MANY_TILES && r.position == 16 && r.error == 1);
         r.position = POSITIONS[i];
         CHECK(header(some(S, sizeof S), &r, LONG, 0) == MUBANLIG_INVALID_SEQUENCE_HEADER && r.position == 16);
         r.position = POSITIONS[i];
@@ -584,23 +696,36 @@ static void check_layout(const struct record *r, uint32_t sbw, uint32_t sbh)
 static int keeps(const struct record *after, const struct record *before, uint32_t answer)
 {
     struct record r = *after;
-    r.position = before->position;
-    r.error = before->error;
     if (answer == MUBANLIG_ACCEPTED) {
         memcpy(r.info, before->info, sizeof r.info);
         memcpy(r.cols, before->cols, sizeof r.cols);
         memcpy(r.rows, before->rows, sizeof r.rows);
         r.sb128 = before->sb128;
     }
-    return same(&r, before);
+    return keeps_all(&r, before);
+}
+
+/* A limit beside the counts that were read, the panel's, or any. */
+static struct limit any_limit(const struct record *on_wall)
+{
+    struct limit limit = PANEL;
+    if (below(3) != 0) {
+        limit.cols = (uint8_t)(on_wall->info[MUBANLIG_INFO_COLS] + below(3) - 1);
+        limit.rows = (uint8_t)(on_wall->info[MUBANLIG_INFO_ROWS] + below(3) - 1);
+    } else if (below(2) != 0) {
+        limit.cols = (uint8_t)below(256);
+        limit.rows = (uint8_t)below(256);
+    }
+    return limit;
 }
 
 static void random_turn(void)
 {
     uint8_t data[40];
-    struct record given, seq, r;
+    struct record given, seq, r, on_wall;
     struct layout_args a;
     struct frame_args f;
+    struct limit limit;
     size_t len = below(sizeof data + 1), end;
     uint32_t answer, mark;
     struct bytes b;
@@ -640,6 +765,11 @@ static void random_turn(void)
         answer = rectangles(&r, LONG, a.sb128);
         CHECK(answer == MUBANLIG_ACCEPTED || answer == MUBANLIG_SHORT_BUFFER);
     }
+    on_wall = given;
+    answer = layout(b, &on_wall, LONG, a);
+    limit = any_limit(&on_wall);
+    r = given;
+    CHECK(limited(&given, &on_wall, answer, &r, layout_in(b, &r, LONG, a, &limit), limit));
 
     r = given;
     answer = rectangles(&r, LONG, (uint8_t)below(3));
@@ -675,6 +805,10 @@ static void random_turn(void)
     CHECK(answer == MUBANLIG_ACCEPTED || answer == MUBANLIG_INVALID_TILE_INFO || answer == MUBANLIG_WRONG_ARGUMENTS);
     CHECK(keeps(&r, &given, answer) && r.position <= end);
     CHECK(answer != MUBANLIG_ACCEPTED || (r.info[MUBANLIG_INFO_UNIFORM] <= 1 && r.sb128 <= 2));
+    on_wall = r;
+    limit = any_limit(&on_wall);
+    r = given;
+    CHECK(limited(&given, &on_wall, answer, &r, frame_in(b, &r, LONG, f, &seq, LONG, &limit), limit));
 }
 
 int main(void)
@@ -686,6 +820,7 @@ int main(void)
     a_layout_and_its_rectangles();
     a_header();
     a_frame();
+    within_limits();
     refusals();
     short_buffers();
     past_the_end();

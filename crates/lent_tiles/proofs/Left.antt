@@ -1,0 +1,98 @@
+-- What a call leaves, put together from the facts of its steps. Assumes nothing.
+use mathlib.Core.Bool.{Bool, true, false, _&&_}
+use mathlib.Core.List.{List, [], _∷_}
+use mathlib.Core.Path.{_≡_, refl, sym, ap, subst, _∙_}
+use Prim.Native.Nat.{ℕ}
+use lib.Dec.{T}
+use lib.ListN.{getD}
+use Rattle.answers.proofs.Numbers.{refused-unless-0}
+use Rattle.answers.specs.Numbers.{numberOf, isRefusal}
+use Rattle.answers.specs.declared.Answer.{Answer}
+use Rattle.answers.specs.declared.Answer.the-variants.{Accepted, InvalidSequenceHeader, InvalidTileInfo, InvalidTrailingBits}
+use Rattle.answers.specs.declared.Answer.the-variants.{WrongArguments, ShortBuffer, TooManyTiles}
+use Rattle.getbits.proofs.Chain.{taken}
+use Rattle.getbits.specs.declared.Place.{Place}
+use Rattle.lent.specs.Lent.{lentPlace}
+use Rattle.tile_layout.specs.Demand3.{Demand3, AcceptedLayout}
+use Rattle.tile_layout.specs.declared.TileArgs.{TileArgs}
+use Rattle.tile_layout.specs.declared.TileRead.{TileRead}
+use Rattle.frame_hdr.specs.declared.FrameRead.{FrameRead}
+use Rattle.flat.specs.Layout.{Buffers, layoutIn}
+use Rattle.lent_tiles.specs.Calls.{answered, handedTiles, handedFrame}
+use Rattle.lent_tiles.specs.Left.{answerOf, tilesLeft}
+
+-- the row of an answer and a place
+pub row : (z : Answer) (p : Place) (error : ℕ) {n x e : ℕ} → n ≡ numberOf z → (x ∷ e ∷ []) ≡ lentPlace p error → (n ∷ x ∷ e ∷ []) ≡ answered z p error
+row z p error number place = cc
+
+pub pair : {A B : Type 0} {a a' : A} {b b' : B} → a ≡ a' → b ≡ b' → _≡_ {A = A × B} (a, b) (a', b')
+pair e f = rw (e, f)
+
+pub triple : {A B C : Type 0} {a a' : A} {b b' : B} {c c' : C} → a ≡ a' → b ≡ b' → c ≡ c' → _≡_ {A = A × B × C} (a, b, c) (a', b', c')
+triple e f g = rw (e, f, g)
+
+-- one of two tests fails
+pub first-fails : (a b : Bool) → a ≡ false → a && b ≡ false
+first-fails a b h = rw h
+
+pub second-fails : (a b : Bool) → b ≡ false → a && b ≡ false
+second-fails true b h = h
+second-fails false b h = refl
+
+pub both-hold : (a b : Bool) → a ≡ true → b ≡ true → a && b ≡ true
+both-hold a b h k = rw (h, k)
+
+pub contrary : {A : Type 0} {a : Bool} → a ≡ true → a ≡ false → A
+contrary h k = absurd (subst T (sym h ∙ k) tt)
+
+-- an answer comes back from its number
+pub answer-back : (z : Answer) → answerOf (numberOf z) ≡ z
+answer-back Accepted = refl
+answer-back InvalidSequenceHeader = refl
+answer-back InvalidTileInfo = refl
+answer-back InvalidTrailingBits = refl
+answer-back WrongArguments = refl
+answer-back ShortBuffer = refl
+answer-back TooManyTiles = refl
+
+-- what a layout's answer leaves, handed back
+module _ (r : TileRead) (error : ℕ) (b : Buffers) {n x y : ℕ} {b' : Buffers} (e : ((n ∷ x ∷ y ∷ []), b') ≡ handedTiles r error b) where
+  pub tiles-number : n ≡ numberOf (r .answer)
+  tiles-number = ap (λ (z : List ℕ × Buffers). getD (z .0) 0 0) e
+
+  pub tiles-kept : (n ≡ 0 → ⊥) → b' ≡ b
+  tiles-kept h = ap (λ (z : List ℕ × Buffers). z .1) e ∙ taken _ _ _ (refused-unless-0 (r .answer) (λ k. h (tiles-number ∙ k)))
+
+-- and a frame's
+module _ (r : FrameRead) (error code : ℕ) (b : Buffers) {n x y code' : ℕ} {b' : Buffers} (e : ((n ∷ x ∷ y ∷ []), code', b') ≡ handedFrame r error code b) where
+  pub frame-number : n ≡ numberOf (r .answer)
+  frame-number = ap (λ (z : List ℕ × ℕ × Buffers). getD (z .0) 0 0) e
+
+  refused : (n ≡ 0 → ⊥) → isRefusal (r .answer) ≡ true
+  refused h = refused-unless-0 (r .answer) (λ k. h (frame-number ∙ k))
+
+  pub code-kept : (n ≡ 0 → ⊥) → code' ≡ code
+  code-kept h = ap (λ (z : List ℕ × ℕ × Buffers). z .1) e ∙ taken _ _ _ (refused h)
+
+  pub frame-kept : (n ≡ 0 → ⊥) → b' ≡ b
+  frame-kept h = ap (λ (z : List ℕ × ℕ × Buffers). z .2) e ∙ taken _ _ _ (refused h)
+
+-- what is left of a reading has its answer, and its layout where that is accepted
+module _ (z : TileRead) (n : ℕ) (b : Buffers) (number : n ≡ numberOf (z .answer)) (info : isRefusal (z .answer) ≡ false → layoutIn b ≡ z .info) where
+  pub left-answer : answerOf n ≡ z .answer
+  left-answer = ap answerOf number ∙ answer-back (z .answer)
+
+  pub left-accepted : isRefusal (answerOf n) ≡ false → isRefusal (z .answer) ≡ false
+  left-accepted r = sym (ap isRefusal left-answer) ∙ r
+
+  -- demand 3 of a layout is demand 3 of what is left of it
+  pub demand3-left : {s : List ℕ} {p p' : Place} {a : TileArgs} → Demand3 s p a z → Demand3 s p a (tilesLeft n b p')
+  demand3-left {s} {p} {p'} {a} d =
+      record {
+        uniform-never-refused = λ u. ap isRefusal left-answer ∙ d .uniform-never-refused u;
+        refused-with-2 = λ u l. ap numberOf left-answer ∙ d .refused-with-2 u l;
+        refused-only-then = λ u r. d .refused-only-then u (sym (ap isRefusal left-answer) ∙ r);
+        accepted = λ r.
+            let h = left-accepted r in
+            subst (AcceptedLayout s p a) (sym (info h)) (d .accepted h);
+      }

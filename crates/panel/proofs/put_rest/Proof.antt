@@ -1,0 +1,45 @@
+-- `panel::put_rest` meets its contract. Assumes nothing.
+use native.Mathlib.Omega.{arith}
+use borrow.Author.Needs.{needs}
+use borrow.Author.Tests.{ne-eqb}
+use Rattle.text.proofs.Puts.{within}
+use Rattle.panel.specs.Print.{panelRestText}
+use Rattle.panel.proofs.put_rest.Statement.{statement}
+use Rattle.panel.proofs.put_rest.Tie as tie
+
+returns : tie.Need-returns
+unfolding panelRestText
+returns c =
+    let p = c .before .before in
+    let q = p .before in
+    rw (q .before .before .if1 .taken, ← q .panel-tiles .ensures) (p .put-tile-read .ensures)
+
+returns-2 : tie.Need-returns-2
+unfolding panelRestText
+returns-2 c =
+    let p = c .before .before in
+    let q = p .before in
+    rw (q .before .before .if2 .taken, ← q .panel-frame .ensures) (within (omega arith) (p .put-frame-read .ensures))
+
+returns-3 : tie.Need-returns-3
+unfolding panelRestText
+returns-3 c =
+    let p = c .before .before in
+    let t = p .before .before in
+    rw (ne-eqb _ _ (t .before .if1 .left), ne-eqb _ _ (t .if2 .left)) (within (omega arith) (p .put-refused .ensures))
+
+pub put-rest-spec : {M : Type 1} → statement M
+put-rest-spec =
+    tie.close
+    (tie.spec
+    (λ c κs. search needs)
+    (λ c κs. search needs)
+    (λ c. search needs)
+    returns
+    (λ c κs. search needs)
+    (λ c κs. search needs)
+    (λ c. search needs)
+    returns-2
+    (λ c κs. search needs)
+    (λ c. search needs)
+    returns-3)

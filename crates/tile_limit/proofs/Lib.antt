@@ -1,0 +1,2 @@
+pub mod OnWall
+pub mod Limited
