@@ -10,15 +10,16 @@ use Rattle.answers.specs.Numbers.{numberOf, isRefusal}
 use Rattle.answers.specs.declared.Answer.{Answer}
 use Rattle.answers.specs.declared.Answer.the-variants.{Accepted, InvalidSequenceHeader, InvalidTileInfo, InvalidTrailingBits}
 use Rattle.answers.specs.declared.Answer.the-variants.{WrongArguments, ShortBuffer, TooManyTiles}
-use Rattle.getbits.proofs.Chain.{taken}
+use Rattle.getbits.proofs.Chain.{taken, left}
 use Rattle.getbits.specs.declared.Place.{Place}
 use Rattle.lent.specs.Lent.{lentPlace}
 use Rattle.tile_layout.specs.Demand3.{Demand3, AcceptedLayout}
 use Rattle.tile_layout.specs.declared.TileArgs.{TileArgs}
+use Rattle.tile_layout.specs.declared.TileInfo.{TileInfo}
 use Rattle.tile_layout.specs.declared.TileRead.{TileRead}
 use Rattle.frame_hdr.specs.declared.FrameRead.{FrameRead}
-use Rattle.flat.specs.Layout.{Buffers, layoutIn}
-use Rattle.lent_tiles.specs.Calls.{answered, handedTiles, handedFrame}
+use Rattle.flat.specs.Layout.{Buffers, hasRoom, layoutIn}
+use Rattle.lent_tiles.specs.Calls.{answered, handedTiles, handedFrame, lentTiles, lentFrames}
 use Rattle.lent_tiles.specs.Left.{answerOf, tilesLeft}
 
 -- the row of an answer and a place
@@ -54,6 +55,17 @@ answer-back InvalidTrailingBits = refl
 answer-back WrongArguments = refl
 answer-back ShortBuffer = refl
 answer-back TooManyTiles = refl
+
+-- a buffer that is too short gives 5, and nothing that was lent changes
+pub tiles-short : (read : Place → TileInfo → TileRead) (position error : ℕ) (b : Buffers) → hasRoom b ≡ false
+    → ((5 ∷ position ∷ error ∷ []), b) ≡ lentTiles read position error b
+unfolding lentTiles
+tiles-short read position error b lacks = sym (left _ _ _ lacks)
+
+pub frames-short : (read : Place → FrameRead) (s : List ℕ) (position error code : ℕ) (b seq : Buffers) (known : Bool) → hasRoom b && hasRoom seq ≡ false
+    → ((5 ∷ position ∷ error ∷ []), code, b) ≡ lentFrames read s position error code b seq known
+unfolding lentFrames
+frames-short read s position error code b seq known lacks = sym (left _ _ _ lacks)
 
 -- what a layout's answer leaves, handed back
 module _ (r : TileRead) (error : ℕ) (b : Buffers) {n x y : ℕ} {b' : Buffers} (e : ((n ∷ x ∷ y ∷ []), b') ≡ handedTiles r error b) where

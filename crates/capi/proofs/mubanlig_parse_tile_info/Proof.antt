@@ -4,7 +4,7 @@ use mathlib.Core.Path.{_≡_, refl, sym, ap, _∙_}
 use borrow.Author.Needs.{needs}
 use borrow.Author.Tests.{not-true, not-false}
 use mir.Facts.{toZ-ofZ}
-use Rattle.getbits.proofs.Chain.{through, taken, left}
+use Rattle.getbits.proofs.Chain.{through, taken}
 use Rattle.getbits.specs.declared.Place.{Place}
 use Rattle.lent.specs.Lent.{placeOf}
 use Rattle.tile_layout.specs.Demand3.{Demand3}
@@ -13,7 +13,7 @@ use Rattle.tile_layout.specs.Limits.{argsOf, inDomain}
 use Rattle.tile_layout.specs.declared.TileArgs.{TileArgs}
 use Rattle.flat.specs.Layout.{Buffers, buffers, hasRoom, layoutIn}
 use Rattle.lent_tiles.specs.Calls.{handedTiles, lentTiles, lentTileInfo}
-use Rattle.lent_tiles.proofs.Left.{contrary, tiles-number, tiles-kept, demand3-left}
+use Rattle.lent_tiles.proofs.Left.{contrary, tiles-short, tiles-number, tiles-kept, demand3-left}
 use Rattle.capi.proofs.mubanlig_parse_tile_info.Statement.{statement}
 use Rattle.capi.proofs.mubanlig_parse_tile_info.Tie as tie
 
@@ -53,10 +53,10 @@ unfolding lentTiles
 meaning k = taken _ _ _ (has k) ∙ through _ _ (read k)
 
 returns : tie.Need-returns
-unfolding lentTiles
 returns c =
     let lacks = sym (c .before .has-room .ensures) ∙ not-true (c .before .has-room .result) (c .if1 .taken) in
-    (sym (left _ _ _ lacks), (λ _. refl, (λ _. refl, (λ _. refl, λ h _. contrary h lacks))))
+    let s = c .before .before .before .before .before .before .before .before .before in
+    (tiles-short _ (s .args .position .now) (s .args .error .now) (given s) lacks, (λ _. refl, (λ _. refl, (λ _. refl, λ h _. contrary h lacks))))
 
 returns-2 : tie.Need-returns-2
 returns-2 c =

@@ -6,7 +6,7 @@ use borrow.Author.Tests.{not-true, not-false}
 use mir.Facts.{toZ-ofZ}
 use Rattle.answers.proofs.Numbers.{accepted-by-0}
 use Rattle.answers.specs.declared.Answer.the-variants.{ShortBuffer}
-use Rattle.getbits.proofs.Chain.{through, taken, left}
+use Rattle.getbits.proofs.Chain.{through, taken}
 use Rattle.getbits.specs.declared.Place.{Place}
 use Rattle.lent.specs.Lent.{placeOf}
 use Rattle.tile_layout.specs.Demand3.{AcceptedLayout}
@@ -14,7 +14,7 @@ use Rattle.tile_layout.specs.Limits.{argsOf}
 use Rattle.tile_layout.specs.declared.TileArgs.{TileArgs}
 use Rattle.flat.specs.Layout.{Buffers, buffers, hasRoom, layoutIn}
 use Rattle.lent_tiles.specs.Calls.{handedTiles, lentTiles, lentTileInfo}
-use Rattle.lent_tiles.proofs.Left.{contrary, tiles-number, tiles-kept}
+use Rattle.lent_tiles.proofs.Left.{contrary, tiles-short, tiles-number, tiles-kept}
 use Rattle.tile_limit.specs.Promises.{LimitedTiles}
 use Rattle.tile_limit.specs.Within.{wall, parseTileInfoWithin}
 use Rattle.tile_limit.specs.declared.TileLimit.{TileLimit}
@@ -71,11 +71,10 @@ unfolding lentTiles
 meaning k = taken _ _ _ (has k) ∙ through _ _ (read k)
 
 returns : tie.Need-returns
-unfolding lentTiles
 returns c =
     let lacks = sym (c .before .has-room .ensures) ∙ not-true (c .before .has-room .result) (c .if1 .taken) in
     let s = c .before .before .before .before .before .before .before .before .before in
-    let e = sym (left _ _ _ lacks) in
+    let e = tiles-short _ (s .args .position .now) (s .args .error .now) (given s) lacks in
     (e, (λ _. refl, (λ _. refl, (λ _. refl, (λ h. contrary h lacks, (λ h. contrary refl (accepted-by-0 ShortBuffer h), λ w. e ∙ on-wall s w))))))
 
 returns-2 : tie.Need-returns-2
