@@ -1,8 +1,9 @@
 /*
- * Mubanlig: AV2 sequence headers and tile layouts, read by a proved library. For C and C++ on x86-64 Linux.
+ * Mubanlig: AV2 sequence headers, tile layouts and film grain parameters, read by a proved library. For C and C++ on x86-64 Linux.
  *
- * Link libcapi_bits.a (the readings), libcapi.a (the records) and libcapi_within.a (layouts within a limit), which `rt staticlib capi_bits`,
- * `rt staticlib capi` and `rt staticlib capi_within` prove and write. docs/INTERFACE.md says what they promise.
+ * Link libcapi_bits.a (the readings), libcapi.a (the records), libcapi_within.a (layouts within a limit) and libcapi_grain.a (film grain
+ * parameters), which `rt staticlib` with capi_bits, capi, capi_within and capi_grain proves and writes. docs/INTERFACE.md says what they
+ * promise.
  *
  * What holds of every call:
  *
@@ -38,6 +39,7 @@ extern "C" {
 #define MUBANLIG_DELTAS 16          /* delta_q */
 #define MUBANLIG_MASKS 3            /* masks */
 #define MUBANLIG_TILE_NUMBERS 4     /* out: so many for each tile */
+#define MUBANLIG_GRAIN_NUMBERS 186  /* fgd: film grain parameters */
 
 /* The limits of the viewers, as max_cols and max_rows: those on walls show every layout, a handheld panel shows less. */
 #define MUBANLIG_WALL_COLS 64
@@ -53,7 +55,8 @@ enum mubanlig_answer {
     MUBANLIG_INVALID_TRAILING_BITS = 3,
     MUBANLIG_WRONG_ARGUMENTS = 4, /* and no bit is used */
     MUBANLIG_SHORT_BUFFER = 5,    /* and nothing that was lent changes, the position neither */
-    MUBANLIG_TOO_MANY_TILES = 6   /* more columns or rows than the limit; the bits of the layout are used */
+    MUBANLIG_TOO_MANY_TILES = 6,  /* more columns or rows than the limit; the bits of the layout are used */
+    MUBANLIG_INVALID_FILM_GRAIN_DATA = 7
 };
 
 /* The bytes of info. */
@@ -91,7 +94,7 @@ enum mubanlig_adaptive {
     MUBANLIG_ADAPTIVE = 2
 };
 
-/* In hdr: LAYOUT. */
+/* layout, and in hdr: LAYOUT. */
 enum mubanlig_pixel_layout {
     MUBANLIG_I400 = 0,
     MUBANLIG_I420 = 1,
@@ -218,10 +221,30 @@ enum mubanlig_hdr {
     MUBANLIG_HDR_FILM_GRAIN_PRESENT = 145
 };
 
-/* The three answer 2. */
+/* The numbers of fgd; of a field with several, the first. Of three planes luma comes first, of two there are the chroma planes alone. */
+enum mubanlig_fgd {
+    MUBANLIG_FGD_CHROMA_SCALING_FROM_LUMA = 0,
+    MUBANLIG_FGD_NUM_POINTS = 1, /* 3 numbers, at most 14 each */
+    MUBANLIG_FGD_POINTS = 4,     /* 84 numbers: 3 planes of 14 points, each its position and its value */
+    MUBANLIG_FGD_SCALING_SHIFT = 88,
+    MUBANLIG_FGD_AR_COEFF_LAG = 89,
+    MUBANLIG_FGD_AR_COEFFS = 90, /* 84 numbers: 3 planes of 28 coefficients */
+    MUBANLIG_FGD_AR_COEFF_SHIFT = 174,
+    MUBANLIG_FGD_GRAIN_SCALE_SHIFT = 175,
+    MUBANLIG_FGD_UV_MULT = 176,      /* 2 numbers */
+    MUBANLIG_FGD_UV_LUMA_MULT = 178, /* 2 numbers */
+    MUBANLIG_FGD_UV_OFFSET = 180,    /* 2 numbers */
+    MUBANLIG_FGD_OVERLAP_FLAG = 182,
+    MUBANLIG_FGD_CLIP_TO_RESTRICTED_RANGE = 183,
+    MUBANLIG_FGD_MC_IDENTITY = 184,
+    MUBANLIG_FGD_BLOCK_SIZE = 185
+};
+
+/* The four answer 2. */
 uint32_t mubanlig_bits_interface_2(void);
 uint32_t mubanlig_interface_2(void);
 uint32_t mubanlig_within_interface_2(void);
+uint32_t mubanlig_grain_interface_2(void);
 
 /*
  * Readings, in libcapi_bits.a. Each answers its value. Data that runs out, or an argument outside the domain, sets the error; most then
@@ -314,6 +337,15 @@ uint32_t mubanlig_parse_tile_info_frmhdr_within(const uint8_t *s, size_t s_len, 
     const uint8_t *seq_info, size_t seq_info_len,
     const uint16_t *seq_col_start_sb, size_t seq_col_start_sb_len, const uint16_t *seq_row_start_sb, size_t seq_row_start_sb_len,
     uint8_t max_cols, uint8_t max_rows);
+
+/*
+ * Film grain parameters, in libcapi_grain.a. layout is that of the sequence. Accepted, all 186 numbers are written. Refused with 7 (more
+ * than 14 points in a list, a position past 255, in I420 one chroma list empty and the other not, or the error set at the end, also where
+ * it was set before) the zero record is written, and the position and the error are those where the reading stopped. 4 is a layout that
+ * there is not. 5 is asked first, then 4; both leave fgd as it was. Answers 0, 4, 5 or 7.
+ */
+uint32_t mubanlig_parse_film_grain_data(const uint8_t *s, size_t s_len, size_t *position, uint8_t *error,
+    uint8_t layout, int16_t *fgd, size_t fgd_len);
 
 #ifdef __cplusplus
 }

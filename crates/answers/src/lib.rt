@@ -10,6 +10,7 @@ pub enum Answer {
     WrongArguments,
     ShortBuffer,
     TooManyTiles,
+    InvalidFilmGrainData,
 }
 
 pub fn number(a: Answer) -> u32
@@ -23,6 +24,7 @@ pub fn number(a: Answer) -> u32
         Answer::WrongArguments => 4,
         Answer::ShortBuffer => 5,
         Answer::TooManyTiles => 6,
+        Answer::InvalidFilmGrainData => 7,
     }
 }
 
@@ -37,5 +39,6 @@ pub fn is_refusal(a: Answer) -> bool
         Answer::WrongArguments => true,
         Answer::ShortBuffer => true,
         Answer::TooManyTiles => true,
+        Answer::InvalidFilmGrainData => true,
     }
 }

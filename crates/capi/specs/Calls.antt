@@ -14,7 +14,7 @@ use Rattle.rectangles.specs.Rectangles.{rectanglesAnswer}
 use Rattle.seq_hdr.specs.Header.{parseSeqHdr}
 use Rattle.flat_hdr.specs.Header.{flatSeqHdr}
 use Rattle.flat.specs.Layout.{Buffers, overFront, hasRoom, putLayout, layoutIn}
-use Rattle.lent_tiles.specs.Calls.{answered, tooShort}
+use Rattle.lent.specs.Calls.{answered, tooShort}
 use Rattle.flat.specs.Segments.{flatMasks, segInfoOf}
 
 -- parse_seg_info over 16 lent deltas and three lent masks

@@ -13,7 +13,8 @@ use Rattle.tile_layout.specs.declared.TileInfo.{TileInfo}
 use Rattle.tile_layout.specs.declared.TileRead.{TileRead}
 use Rattle.frame_hdr.specs.declared.FrameRead.{FrameRead}
 use Rattle.flat.specs.Layout.{Buffers, hasRoom, layoutIn}
-use Rattle.lent_tiles.specs.Calls.{answered, tooShort, handedTiles, handedFrame, lentTiles, lentFrames}
+use Rattle.lent.specs.Calls.{answered, tooShort}
+use Rattle.lent_tiles.specs.Calls.{handedTiles, handedFrame, lentTiles, lentFrames}
 use Rattle.lent_tiles.specs.Left.{tilesLeft}
 use Rattle.lent_tiles.proofs.Left.{left-answer, left-accepted}
 use Rattle.tile_limit.specs.Promises.{Limited}

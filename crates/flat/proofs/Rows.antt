@@ -9,7 +9,7 @@ use lib.ListN.{length, getD, set, take, drop, length-append, length-map, length-
 use lib.Dec.{T, leb}
 use lib.IntN.{ℤ, pos}
 use lib.Signed.{mag}
-use mir.Syntax.{Width, w64}
+use mir.Syntax.{Width}
 use mir.Val.{SFits, hbits, toZ, ofZ}
 use mir.Facts.{sfits-widen, toZ-ofZ}
 use mir.ValLaws.{toZ-pos}
@@ -125,13 +125,13 @@ pub put-all : {A : Type 0} (before xs : List A) → length before ≡ length xs 
 unfolding put
 put-all before xs e = rw (zero-add (length xs), ← e, drop-length before) (append-nil xs)
 
--- a loop that widens unsigned numbers to 64 bits
+-- a loop that widens unsigned numbers to signed ones
 module _ (before : List ℤ) (at : ℕ) (xs : List ℕ) where
-  pub widened : at + length xs ≤ length before → (after : List ℤ) (i : ℕ) → i < length xs → getD xs i 0 < 2 ^ 63
-      → Copied before at (map pos xs) after i → Copied before at (map pos xs) (set after (at + i) (toZ w64 (getD xs i 0))) (i + 1)
-  widened room after i h small k =
-      turned before at (map pos xs) (rw (length-map xs pos) room) after i (toZ w64 (getD xs i 0)) (pos 0) (rw (length-map xs pos) h)
-      (toZ-pos w64 (getD xs i 0) small ∙ sym (List·getD-map pos xs i 0))
+  pub widened : (w : Width) → at + length xs ≤ length before → (after : List ℤ) (i : ℕ) → i < length xs → getD xs i 0 < 2 ^ hbits w
+      → Copied before at (map pos xs) after i → Copied before at (map pos xs) (set after (at + i) (toZ w (getD xs i 0))) (i + 1)
+  widened w room after i h small k =
+      turned before at (map pos xs) (rw (length-map xs pos) room) after i (toZ w (getD xs i 0)) (pos 0) (rw (length-map xs pos) h)
+      (toZ-pos w (getD xs i 0) small ∙ sym (List·getD-map pos xs i 0))
       k
 
   pub wide : (after : List ℤ) (i : ℕ) → length xs ≤ i → Copied before at (map pos xs) after i → PutAt before at (map pos xs) (length xs) after (at + length xs)

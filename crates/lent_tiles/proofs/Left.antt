@@ -3,48 +3,22 @@ use mathlib.Core.Bool.{Bool, true, false, _&&_}
 use mathlib.Core.List.{List, [], _∷_}
 use mathlib.Core.Path.{_≡_, refl, sym, ap, subst, _∙_}
 use Prim.Native.Nat.{ℕ}
-use lib.Dec.{T}
 use lib.ListN.{getD}
 use Rattle.answers.proofs.Numbers.{refused-unless-0}
 use Rattle.answers.specs.Numbers.{numberOf, isRefusal}
 use Rattle.answers.specs.declared.Answer.{Answer}
 use Rattle.answers.specs.declared.Answer.the-variants.{Accepted, InvalidSequenceHeader, InvalidTileInfo, InvalidTrailingBits}
-use Rattle.answers.specs.declared.Answer.the-variants.{WrongArguments, ShortBuffer, TooManyTiles}
+use Rattle.answers.specs.declared.Answer.the-variants.{WrongArguments, ShortBuffer, TooManyTiles, InvalidFilmGrainData}
 use Rattle.getbits.proofs.Chain.{taken, left}
 use Rattle.getbits.specs.declared.Place.{Place}
-use Rattle.lent.specs.Lent.{lentPlace}
 use Rattle.tile_layout.specs.Demand3.{Demand3, AcceptedLayout}
 use Rattle.tile_layout.specs.declared.TileArgs.{TileArgs}
 use Rattle.tile_layout.specs.declared.TileInfo.{TileInfo}
 use Rattle.tile_layout.specs.declared.TileRead.{TileRead}
 use Rattle.frame_hdr.specs.declared.FrameRead.{FrameRead}
 use Rattle.flat.specs.Layout.{Buffers, hasRoom, layoutIn}
-use Rattle.lent_tiles.specs.Calls.{answered, handedTiles, handedFrame, lentTiles, lentFrames}
+use Rattle.lent_tiles.specs.Calls.{handedTiles, handedFrame, lentTiles, lentFrames}
 use Rattle.lent_tiles.specs.Left.{answerOf, tilesLeft}
-
--- the row of an answer and a place
-pub row : (z : Answer) (p : Place) (error : ℕ) {n x e : ℕ} → n ≡ numberOf z → (x ∷ e ∷ []) ≡ lentPlace p error → (n ∷ x ∷ e ∷ []) ≡ answered z p error
-row z p error number place = cc
-
-pub pair : {A B : Type 0} {a a' : A} {b b' : B} → a ≡ a' → b ≡ b' → _≡_ {A = A × B} (a, b) (a', b')
-pair e f = rw (e, f)
-
-pub triple : {A B C : Type 0} {a a' : A} {b b' : B} {c c' : C} → a ≡ a' → b ≡ b' → c ≡ c' → _≡_ {A = A × B × C} (a, b, c) (a', b', c')
-triple e f g = rw (e, f, g)
-
--- one of two tests fails
-pub first-fails : (a b : Bool) → a ≡ false → a && b ≡ false
-first-fails a b h = rw h
-
-pub second-fails : (a b : Bool) → b ≡ false → a && b ≡ false
-second-fails true b h = h
-second-fails false b h = refl
-
-pub both-hold : (a b : Bool) → a ≡ true → b ≡ true → a && b ≡ true
-both-hold a b h k = rw (h, k)
-
-pub contrary : {A : Type 0} {a : Bool} → a ≡ true → a ≡ false → A
-contrary h k = absurd (subst T (sym h ∙ k) tt)
 
 -- an answer comes back from its number
 pub answer-back : (z : Answer) → answerOf (numberOf z) ≡ z
@@ -55,6 +29,7 @@ answer-back InvalidTrailingBits = refl
 answer-back WrongArguments = refl
 answer-back ShortBuffer = refl
 answer-back TooManyTiles = refl
+answer-back InvalidFilmGrainData = refl
 
 -- a buffer that is too short gives 5, and nothing that was lent changes
 pub tiles-short : (read : Place → TileInfo → TileRead) (position error : ℕ) (b : Buffers) → hasRoom b ≡ false

@@ -1,15 +1,15 @@
 -- A call over the lent buffers of a layout: a row of the answer's number, the position and the error's byte, and beside it the buffers.
 use Prim.Native.Nat.{ℕ}
 use mathlib.Core.Bool.{Bool, _&&_}
-use mathlib.Core.List.{List, [], _∷_}
+use mathlib.Core.List.{List}
 use lib.IntN.{ℤ}
-use Rattle.answers.specs.Numbers.{numberOf, isRefusal}
-use Rattle.answers.specs.declared.Answer.{Answer}
-use Rattle.answers.specs.declared.Answer.the-variants.{WrongArguments, ShortBuffer}
+use Rattle.answers.specs.Numbers.{isRefusal}
+use Rattle.answers.specs.declared.Answer.the-variants.{WrongArguments}
 use Rattle.getbits.specs.Bits.{settled}
 use Rattle.getbits.specs.Chain.{pick, then}
 use Rattle.getbits.specs.declared.Place.{Place}
-use Rattle.lent.specs.Lent.{placeOf, lentPlace}
+use Rattle.lent.specs.Calls.{answered, tooShort}
+use Rattle.lent.specs.Lent.{placeOf}
 use Rattle.tile_layout.specs.Layout.{parseTileInfo}
 use Rattle.tile_layout.specs.declared.TileArgs.{TileArgs}
 use Rattle.tile_layout.specs.declared.TileInfo.{TileInfo}
@@ -19,14 +19,6 @@ use Rattle.frame_hdr.specs.declared.FrameHeader.{FrameHeader}
 use Rattle.frame_hdr.specs.declared.FrameRead.{FrameRead}
 use Rattle.frame_hdr.specs.declared.SeqLayout.{SeqLayout}
 use Rattle.flat.specs.Layout.{Buffers, hasRoom, putLayout, layoutIn}
-
--- an answer and the place after it, where the error's byte was `error`
-abbrev pub answered : Answer → Place → ℕ → List ℕ
-answered z p error = numberOf z ∷ lentPlace p error
-
--- a lent buffer is too short: 5, and the place stays as it was
-abbrev pub tooShort : ℕ → ℕ → List ℕ
-tooShort position error = numberOf ShortBuffer ∷ position ∷ error ∷ []
 
 -- a layout's answer, handed back over its buffers: after a refusal they are what they were
 abbrev pub handedTiles : TileRead → ℕ → Buffers → List ℕ × Buffers

@@ -1,9 +1,12 @@
--- What the programs print alike: the first line of a layout, a line of starts, and the line of a refusal.
+-- What the programs print alike: the first line of a layout, a line of starts, the line of a refusal, and a reader's place.
 use mathlib.Core.Bool.{Bool}
 use mathlib.Core.List.{List, [], _∷_, _++_}
 use Prim.Native.Nat.{ℕ}
+use lib.Dec.{eqb}
 use lib.ListN.{take}
 use Rattle.getbits.specs.Chain.{pick}
+use Rattle.getbits.specs.declared.Place.{Place}
+use Rattle.lent.specs.Lent.{positionOf}
 use Rattle.text.specs.Text.{word, nexts, row, line}
 
 -- accepted: ok, U or N, and numbers
@@ -17,3 +20,15 @@ startsText starts n = line (row (take n starts))
 -- refused: no and the number
 unfoldable pub refusedText : ℕ → List ℕ
 refusedText n = line (word "no" ++ nexts (n ∷ []))
+
+-- bits used, reader error 0 or 1
+abbrev pub placeNumbers : Place → List ℕ
+placeNumbers next = positionOf next ∷ pick (next .error) 1 0 ∷ []
+
+-- an accepted record: ok, bits used, reader error
+unfoldable pub okText : Place → List ℕ
+okText next = line (word "ok" ++ nexts (placeNumbers next))
+
+-- a refused one: no, the number, bits used, reader error; no 4 alone
+unfoldable pub refusalText : ℕ → Place → List ℕ
+refusalText n next = pick (eqb n 4) (refusedText n) (line (word "no" ++ nexts (n ∷ placeNumbers next)))

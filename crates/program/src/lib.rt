@@ -4,7 +4,9 @@ ghost use Prim.Native.Nat.{_+_, _*_, _<_};
 ghost use lib.ListN.{length};
 ghost use Rattle.text.specs.Text.{Put};
 ghost use Rattle.program.specs.Input.{byteAt, twoAt, isInput};
-ghost use Rattle.program.specs.Output.{acceptedText, refusedText};
+ghost use Rattle.program.specs.Output.{acceptedText, refusedText, okText, refusalText};
+use getbits::Place;
+use lent::position_of;
 use libc::STDERR_FILENO;
 use text::put_line;
 
@@ -48,6 +50,25 @@ pub fn put_refused(out: &mut [u8], at: usize, n: u32) -> usize
     ensures { λ r. ⌜ Put 24 (now (out .entry)) at (refusedText n) (now (out .exit)) r ⌝ }
 {
     put_line(out, at, b"no", &[n as u64])
+}
+
+// An accepted record's first line.
+pub fn put_ok(out: &mut [u8], next: Place) -> usize
+    ensures { λ r. ⌜ Put 45 (now (out .entry)) 0 (okText next) (now (out .exit)) r ⌝ }
+{
+    let xs = [position_of(next) as u64, next.error as u64];
+    put_line(out, 0, b"ok", &xs)
+}
+
+// A refused record's line.
+pub fn put_refusal(out: &mut [u8], n: u32, next: Place) -> usize
+    ensures { λ r. ⌜ Put 66 (now (out .entry)) 0 (refusalText n next) (now (out .exit)) r ⌝ }
+{
+    if n == 4 {
+        return put_refused(out, 0, n);
+    }
+    let xs = [n as u64, position_of(next) as u64, next.error as u64];
+    put_line(out, 0, b"no", &xs)
 }
 
 // Where the output could not be written, says so on standard error. `written` is what io::write_all answered.

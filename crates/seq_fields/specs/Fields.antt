@@ -2,10 +2,13 @@
 use Prim.Native.Nat.{ℕ, _%_}
 use mathlib.Core.List.{List}
 use mathlib.Core.Bool.{Bool, true, false}
+use lib.Dec.{eqb, leb}
 use lib.IntN.{pos}
 use Rattle.getbits.specs.Bits.{getBits}
-use Rattle.getbits.specs.Chain.{then}
+use Rattle.getbits.specs.Chain.{pick, then}
 use Rattle.getbits.specs.declared.Place.{Place}
+use Rattle.seq_fields.specs.declared.PixelLayout.{PixelLayout}
+use Rattle.seq_fields.specs.declared.PixelLayout.the-variants.{I400, I420, I422, I444}
 use Rattle.seq_fields.specs.declared.Small.{Small}
 
 -- get_bits(n) as u8: n bits, cut to eight
@@ -21,3 +24,17 @@ smallIf false s p n = record { value = 0; next = p }
 abbrev pub bitOf : Bool → ℕ
 bitOf true = 1
 bitOf false = 0
+
+-- is the layout without chroma?
+abbrev pub isMono : PixelLayout → Bool
+isMono I400 = true
+isMono I420 = false
+isMono I422 = false
+isMono I444 = false
+
+-- layout 0 to 3, as the Rust numbers them
+abbrev pub isLayout : ℕ → Bool
+isLayout n = leb n 3
+
+abbrev pub layoutOf : ℕ → PixelLayout
+layoutOf n = pick (eqb n 0) I400 (pick (eqb n 1) I420 (pick (eqb n 2) I422 I444))

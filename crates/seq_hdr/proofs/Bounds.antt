@@ -16,7 +16,7 @@ use Rattle.getbits.specs.Bits.{getFlag, flagIf, getBits}
 use Rattle.getbits.specs.declared.Place.{Place}
 use Rattle.tile_layout.specs.Limits.{unsigned, inDomain}
 use Rattle.tile_layout.proofs.Domain.{in-domain}
-use Rattle.seq_fields.specs.Fields.{getSmall, smallIf}
+use Rattle.seq_fields.specs.Fields.{getSmall, smallIf, isMono}
 use Rattle.seq_fields.proofs.Bounds.{bits-below}
 use Rattle.seq_picture.specs.declared.FrameSize.{FrameSize}
 use Rattle.seq_picture.specs.declared.Level.{Level}
@@ -26,7 +26,7 @@ use Rattle.seq_blocks.specs.Blocks.{sbCode, readPartition, readBlocks}
 use Rattle.seq_inter.specs.Refs.{readMotion, readRefFrames}
 use Rattle.seq_hdr.specs.declared.SeqRead.{SeqRead}
 use Rattle.seq_hdr.specs.Tiling.{tilingArgs}
-use Rattle.seq_hdr.specs.Header.{readStart, unknownProfile, isMono, refusedHeader, readGroups, readHead}
+use Rattle.seq_hdr.specs.Header.{readStart, unknownProfile, refusedHeader, readGroups, readHead}
 use Rattle.seq_hdr.specs.HeaderLayout.{argsBefore}
 
 small-lt : (s : List ℕ) (p : Place) (n : ℕ) → getSmall s p n .value < 2 ^ n

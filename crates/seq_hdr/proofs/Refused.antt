@@ -12,6 +12,7 @@ use Rattle.getbits.specs.Chain.{then}
 use Rattle.getbits.specs.Bits.{getFlag}
 use Rattle.getbits.specs.declared.Place.{Place}
 use Rattle.getbits.proofs.Chain.{picked}
+use Rattle.seq_fields.specs.Fields.{isMono}
 use Rattle.seq_picture.specs.Level.{readLevel, readFormat}
 use Rattle.seq_picture.specs.Picture.{readPicture}
 use Rattle.seq_picture.specs.declared.Level.{Level}
@@ -23,7 +24,7 @@ use Rattle.seq_record.specs.declared.SequenceHeader.{SequenceHeader}
 use Rattle.seq_record.specs.declared.Start.{Start}
 use Rattle.seq_hdr.specs.declared.SeqRead.{SeqRead}
 use Rattle.seq_hdr.specs.Tiling.{readTiling}
-use Rattle.seq_hdr.specs.Header.{readStart, unknownProfile, isMono, refusedHeader, checkTrailingBits, readGroups, readHead, withTiling, parseSeqHdr}
+use Rattle.seq_hdr.specs.Header.{readStart, unknownProfile, refusedHeader, checkTrailingBits, readGroups, readHead, withTiling, parseSeqHdr}
 
 -- the answer is at most 3, and a refused header is the zero record
 pub record Refused (r : SeqRead) : Type 0 where

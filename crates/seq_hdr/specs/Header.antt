@@ -1,7 +1,7 @@
 -- The sequence header: document 01, parse_seq_hdr, and "Questions asked, in this order".
 use Prim.Native.Nat.{ℕ, _%_}
 use mathlib.Core.List.{List}
-use mathlib.Core.Bool.{Bool, true, false, not, _||_}
+use mathlib.Core.Bool.{Bool, false, not, _||_}
 use lib.Dec.{ltb, leb, eqb}
 use Rattle.answers.specs.Numbers.{isRefusal}
 use Rattle.answers.specs.declared.Answer.{Answer}
@@ -10,9 +10,7 @@ use Rattle.getbits.specs.Bits.{getFlag}
 use Rattle.getbits.specs.Chain.{pick, then}
 use Rattle.getbits.specs.declared.Place.{Place}
 use Rattle.codes.specs.Codes.{getVlc}
-use Rattle.seq_fields.specs.Fields.{getSmall}
-use Rattle.seq_fields.specs.declared.PixelLayout.{PixelLayout}
-use Rattle.seq_fields.specs.declared.PixelLayout.the-variants.{I400, I420, I422, I444}
+use Rattle.seq_fields.specs.Fields.{getSmall, isMono}
 use Rattle.seq_picture.specs.Level.{readLevel, readFormat}
 use Rattle.seq_picture.specs.Picture.{readPicture}
 use Rattle.seq_picture.specs.declared.Level.{Level}
@@ -42,13 +40,6 @@ readStart s p =
 -- is the profile neither at most 8 nor 31?
 abbrev pub unknownProfile : ℕ → Bool
 unknownProfile n = not (leb n 8 || eqb n 31)
-
--- is the layout without chroma?
-abbrev pub isMono : PixelLayout → Bool
-isMono I400 = true
-isMono I420 = false
-isMono I422 = false
-isMono I444 = false
 
 -- a refused sequence answers the zero record
 unfoldable pub refusedHeader : Answer → Place → SeqRead

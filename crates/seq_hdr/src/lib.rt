@@ -3,7 +3,7 @@ ghost use mathlib.Core.Path.{_≡_};
 ghost use lib.Dec.{ltb};
 ghost use Rattle.seq_hdr.specs.Tiling.{tileInfoIf, readTiling};
 ghost use Rattle.seq_hdr.specs.HeaderLayout.{HeaderLayout};
-ghost use Rattle.seq_hdr.specs.Header.{readStart, unknownProfile, isMono, refusedHeader, checkTrailingBits};
+ghost use Rattle.seq_hdr.specs.Header.{readStart, unknownProfile, refusedHeader, checkTrailingBits};
 ghost use Rattle.seq_hdr.specs.Header.{readGroups, readHead, withTiling, parseSeqHdr};
 use answers::Answer;
 use answers::is_refusal;
@@ -12,9 +12,9 @@ use getbits::Place;
 use getbits::flag_if;
 use getbits::get_flag;
 use seq_blocks::read_blocks;
-use seq_fields::PixelLayout;
 use seq_fields::adaptive_or;
 use seq_fields::get_small;
+use seq_fields::is_mono;
 use seq_inter::read_inter;
 use seq_inter::read_motion;
 use seq_inter::read_ref_frames;
@@ -77,17 +77,6 @@ fn above(n: u32, most: u32) -> bool
     ensures { λ r. ⌜ r ≡ ltb most n ⌝ }
 {
     most < n
-}
-
-fn is_mono(layout: PixelLayout) -> bool
-    ensures { λ r. ⌜ r ≡ isMono layout ⌝ }
-{
-    match layout {
-        PixelLayout::I400 => true,
-        PixelLayout::I420 => false,
-        PixelLayout::I422 => false,
-        PixelLayout::I444 => false,
-    }
 }
 
 // The layout of the largest frame.

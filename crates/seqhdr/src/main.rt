@@ -8,17 +8,17 @@ ghost use Rattle.program.specs.Output.{startsText};
 ghost use Rattle.text.specs.Text.{Put, nexts, line};
 ghost use Rattle.seqhdr.specs.Fields.{openingText, sizeText, toolsText, filtersText, fieldsText};
 ghost use Rattle.seqhdr.specs.Fields.{columnsText, rowsText, seqLayoutText, headerText};
-ghost use Rattle.seqhdr.specs.Print.{seqAcceptedText, refusalText, seqReadText, seqhdrText};
+ghost use Rattle.seqhdr.specs.Print.{seqAcceptedText, seqReadText, seqhdrText};
 ghost use Rattle.seqhdr.specs.Request.{isSeqRequest, seqRequest};
 use answers::Answer;
 use answers::is_refusal;
 use answers::number;
 use flat_hdr::put_seq_hdr;
 use getbits::Place;
-use lent::position_of;
 use libc::STDIN_FILENO;
 use libc::STDOUT_FILENO;
-use program::put_refused;
+use program::put_ok;
+use program::put_refusal;
 use program::report_written;
 use seq_hdr::SeqRead;
 use seq_hdr::parse_seq_hdr;
@@ -334,19 +334,8 @@ fn put_header(out: &mut [u8], at: usize, hdr: SequenceHeader) -> usize
 fn put_seq_accepted(out: &mut [u8], hdr: SequenceHeader, next: Place) -> usize
     ensures { λ r. ⌜ Put 43589 (now (out .entry)) 0 (seqAcceptedText hdr next) (now (out .exit)) r ⌝ }
 {
-    let xs = [position_of(next) as u64, next.error as u64];
-    let head = put_line(out, 0, b"ok", &xs);
+    let head = put_ok(out, next);
     put_header(out, head, hdr)
-}
-
-fn put_refusal(out: &mut [u8], n: u32, next: Place) -> usize
-    ensures { λ r. ⌜ Put 66 (now (out .entry)) 0 (refusalText n next) (now (out .exit)) r ⌝ }
-{
-    if n == 4 {
-        return put_refused(out, 0, n);
-    }
-    let xs = [n as u64, position_of(next) as u64, next.error as u64];
-    put_line(out, 0, b"no", &xs)
 }
 
 fn put_read(out: &mut [u8], r: SeqRead) -> usize

@@ -20,6 +20,7 @@ use capi_bits::mubanlig_get_uleb128;
 use capi_bits::mubanlig_get_uniform;
 use capi_bits::mubanlig_get_vlc;
 use capi_bits::mubanlig_remaining_bytes;
+use capi_grain::mubanlig_parse_film_grain_data;
 use capi_within::mubanlig_parse_tile_info_frmhdr_within;
 use capi_within::mubanlig_parse_tile_info_within;
 use codes::get_uleb128;
@@ -43,8 +44,8 @@ struct RowNumber {
 
 // How many cases of each operation were replayed, and how many agree.
 struct Tally {
-    replayed: [u32; 19],
-    agree: [u32; 19],
+    replayed: [u32; 20],
+    agree: [u32; 20],
 }
 
 struct Verdict {
@@ -235,7 +236,7 @@ fn delta_in(xs: &[i16], k: usize) -> i64 {
     if k < xs.len() { i16_to_i64(xs[k]) } else { 0 }
 }
 
-// The first n deltas go to the places from i on.
+// The first n deltas, or numbers of film grain, go to the places from i on.
 fn store_deltas(out: &mut [i64], i: usize, xs: &[i16], n: usize)
     requires { ⌜ (i ≤ 512) × (n ≤ 512) ⌝ }
     ensures { λ _. ⌜ length (now (out .exit)) ≡ length (now (out .entry)) ⌝ }
@@ -560,6 +561,37 @@ fn replay_segments(
     answer
 }
 
+fn lend_grain(
+    s: &[u8],
+    position: &mut usize,
+    error: &mut u8,
+    args: &[u32],
+    fgd: &mut [i16],
+) -> u32 {
+    let a = held_at(args, 1, fgd.len());
+    mubanlig_parse_film_grain_data(
+        s,
+        &mut *position,
+        &mut *error,
+        u8_at(args, 0),
+        &mut fgd[..a],
+    )
+}
+
+// Each number that is lent is 7 before.
+fn replay_grain(
+    s: &[u8],
+    position: &mut usize,
+    error: &mut u8,
+    args: &[u32],
+    out: &mut [i64],
+) -> u32 {
+    let mut fgd = [7i16; 188];
+    let answer = lend_grain(s, &mut *position, &mut *error, args, &mut fgd);
+    store_deltas(&mut *out, 3, &fgd, 186);
+    answer
+}
+
 fn lend_rectangles(
     args: &[u32],
     info: &[u8],
@@ -645,6 +677,7 @@ fn replay_record(
     match kind {
         12 => replay_header(s, &mut *position, &mut *error, args, &mut *out),
         14 => replay_segments(s, &mut *position, &mut *error, args, &mut *out),
+        19 => replay_grain(s, &mut *position, &mut *error, args, &mut *out),
         11 | 17 => replay_layout(kind, s, &mut *position, &mut *error, args, &mut *out),
         _ => replay_frame(kind, s, &mut *position, &mut *error, args, &mut *out),
     }
@@ -673,6 +706,7 @@ fn outcome_count(kind: u32) -> usize
         12 => 288,
         13 | 18 => 143,
         14 => 22,
+        19 => 189,
         _ => 3,
     }
 }
@@ -814,14 +848,14 @@ fn replay(case: &[u8]) -> Verdict {
         }
     }
     Verdict {
-        kind: 19,
+        kind: 20,
         agrees: false,
     }
 }
 
-fn one_more(counts: [u32; 19], i: usize) -> [u32; 19] {
+fn one_more(counts: [u32; 20], i: usize) -> [u32; 20] {
     let mut after = counts;
-    if i < 19 {
+    if i < 20 {
         if counts[i] < 0xffff_ffff {
             after[i] = counts[i] + 1;
         }
@@ -833,7 +867,7 @@ fn counted(t: Tally, v: Verdict) -> Tally {
     let old_replayed = t.replayed;
     let old_agree = t.agree;
     let replayed = one_more(old_replayed, v.kind);
-    let agree = one_more(old_agree, if v.agrees { v.kind } else { 19 });
+    let agree = one_more(old_agree, if v.agrees { v.kind } else { 20 });
     Tally { replayed, agree }
 }
 
@@ -861,7 +895,7 @@ fn replay_first(case: &[u8], size: usize) -> Verdict {
         return replay(&case[..size]);
     }
     Verdict {
-        kind: 19,
+        kind: 20,
         agrees: false,
     }
 }
@@ -926,7 +960,8 @@ fn print_operation(kind: usize) {
         15 => print(b"positions"),
         16 => print(b"tile_rectangles"),
         17 => print(b"parse_tile_info_within"),
-        _ => print(b"parse_tile_info_frmhdr_within"),
+        18 => print(b"parse_tile_info_frmhdr_within"),
+        _ => print(b"parse_film_grain_data"),
     }
 }
 
@@ -952,10 +987,10 @@ fn print_line(t: Tally, kind: usize) -> bool {
 
 // A line for each operation. Could the last be written?
 fn print_tally(t: Tally) -> bool {
-    for kind in 0..18 {
+    for kind in 0..19 {
         print_line(t, kind);
     }
-    print_line(t, 18)
+    print_line(t, 19)
 }
 
 fn main() {
@@ -965,8 +1000,8 @@ fn main() {
         return;
     }
     let none = Tally {
-        replayed: [0; 19],
-        agree: [0; 19],
+        replayed: [0; 20],
+        agree: [0; 20],
     };
     report_written(print_tally(replay_all(fd, none)));
     libc::close(fd);

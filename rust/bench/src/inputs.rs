@@ -22,6 +22,12 @@ pub struct FrameInput {
     pub args: Vec<i64>,
 }
 
+/// Film grain parameters to read, and the layout that they are read for.
+pub struct GrainInput {
+    pub data: Vec<u8>,
+    pub layout: i64,
+}
+
 pub struct Inputs {
     pub bytes: Vec<u8>,
     pub widths: Vec<i32>,
@@ -30,6 +36,7 @@ pub struct Inputs {
     pub non_uniform: Vec<LayoutInput>,
     pub headers: Vec<Vec<u8>>,
     pub frames: Vec<FrameInput>,
+    pub grain: Vec<GrainInput>,
 }
 
 impl Inputs {
@@ -43,6 +50,7 @@ impl Inputs {
             non_uniform: layouts(&mut rng, false),
             headers: headers(&mut rng),
             frames: frames(&mut rng),
+            grain: grain(&mut rng),
         }
     }
 }
@@ -106,6 +114,26 @@ fn frames(rng: &mut Rng) -> Vec<FrameInput> {
                 data,
                 args: case.args.clone(),
             });
+        }
+    }
+    list
+}
+
+/// Film grain parameters that are accepted, all of whose planes have points of their own, in the layouts with chroma.
+fn grain(rng: &mut Rng) -> Vec<GrainInput> {
+    let mut list = Vec::new();
+    while list.len() < RECORDS {
+        let layout = rng.range(1, 3);
+        let counts = [rng.range(2, 14), rng.range(1, 10), rng.range(1, 10)].map(|n| n as u64);
+        let wishes = [
+            ("from_luma", 0),
+            ("y", counts[0]),
+            ("u", counts[1]),
+            ("v", counts[2]),
+        ];
+        let data = make::grain::wished(rng, layout, &wishes);
+        if Theirs::parse_film_grain_data(&mut Theirs::reader(&data), layout).is_some() {
+            list.push(GrainInput { data, layout });
         }
     }
     list

@@ -24,6 +24,7 @@ pub trait Library {
     type Tile: Default;
     type Header;
     type Frame;
+    type Grain;
 
     fn reader(data: &[u8]) -> Self::Reader<'_>;
     fn get_bit(gb: &mut Self::Reader<'_>) -> u32;
@@ -46,6 +47,7 @@ pub trait Library {
         seqhdr: &Self::Header,
         gb: &mut Self::Reader<'_>,
     ) -> bool;
+    fn parse_film_grain_data(gb: &mut Self::Reader<'_>, layout: i64) -> Option<Self::Grain>;
 
     /// A frame and a sequence header from the arguments of a case.
     fn frame(args: &[i64]) -> (Self::Frame, Self::Header);
@@ -54,6 +56,7 @@ pub trait Library {
     fn tile_mark(t: &Self::Tile) -> u64;
     fn header_mark(hdr: &Self::Header) -> u64;
     fn frame_mark(hdr: &Self::Frame) -> u64;
+    fn grain_mark(fgd: &Self::Grain) -> u64;
 }
 
 /// The proved library, through the safe crate.
@@ -67,6 +70,7 @@ macro_rules! same_for_both {
         type Tile = $library::TileInfo;
         type Header = $library::SequenceHeader;
         type Frame = $library::FrameHeader;
+        type Grain = $library::FilmGrainData;
 
         #[inline(always)]
         fn get_bit(gb: &mut Self::Reader<'_>) -> u32 {
@@ -100,6 +104,12 @@ macro_rules! same_for_both {
 
         fn frame_mark(hdr: &Self::Frame) -> u64 {
             u64::from(hdr.sb128) + Self::tile_mark(&hdr.tiling.t)
+        }
+
+        fn grain_mark(fgd: &Self::Grain) -> u64 {
+            let points = fgd.points.iter().map(|plane| i64::from(plane[0][0]));
+            let coeffs = fgd.ar_coeffs.iter().map(|plane| i64::from(plane[0]));
+            (i64::from(fgd.block_size) + points.chain(coeffs).sum::<i64>()) as u64
         }
     };
 }
@@ -171,6 +181,11 @@ impl Library for Ours {
         gb: &mut Self::Reader<'_>,
     ) -> bool {
         ours::parse_tile_info_frmhdr_within(hdr, seqhdr, gb, LIMIT).is_ok()
+    }
+
+    #[inline(always)]
+    fn parse_film_grain_data(gb: &mut Self::Reader<'_>, layout: i64) -> Option<Self::Grain> {
+        ours::parse_film_grain_data(gb, from::ours::pixel_layout(layout)).ok()
     }
 }
 
@@ -281,5 +296,11 @@ impl Library for Theirs {
             return false;
         }
         accepted
+    }
+
+    #[inline(always)]
+    fn parse_film_grain_data(gb: &mut Self::Reader<'_>, layout: i64) -> Option<Self::Grain> {
+        gb.parse_film_grain_data(from::theirs::pixel_layout(layout))
+            .ok()
     }
 }

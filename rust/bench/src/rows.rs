@@ -1,6 +1,6 @@
 //! The rows of the table: loops over whole calls.
 
-use crate::inputs::{FrameInput, Inputs, LayoutInput};
+use crate::inputs::{FrameInput, GrainInput, Inputs, LayoutInput};
 use crate::library::{LayoutArgs, Library};
 use std::hint::black_box;
 
@@ -16,10 +16,11 @@ pub enum Row {
     SeqHdr,
     TileInfoFrmhdr,
     TileInfoFrmhdrWithin,
+    FilmGrainData,
 }
 
 impl Row {
-    pub const ALL: [Self; 10] = [
+    pub const ALL: [Self; 11] = [
         Self::GetBit,
         Self::GetBits,
         Self::GetUniform,
@@ -30,6 +31,7 @@ impl Row {
         Self::SeqHdr,
         Self::TileInfoFrmhdr,
         Self::TileInfoFrmhdrWithin,
+        Self::FilmGrainData,
     ];
 
     pub fn name(self) -> &'static str {
@@ -44,6 +46,7 @@ impl Row {
             Self::SeqHdr => "parse_seq_hdr",
             Self::TileInfoFrmhdr => "parse_tile_info_frmhdr",
             Self::TileInfoFrmhdrWithin => "parse_tile_info_frmhdr_within",
+            Self::FilmGrainData => "parse_film_grain_data",
         }
     }
 
@@ -62,6 +65,7 @@ impl Row {
             Self::SeqHdr => parse_seq_hdr::<L>(&inputs.headers, calls),
             Self::TileInfoFrmhdr => parse_tile_info_frmhdr::<L>(&inputs.frames, calls),
             Self::TileInfoFrmhdrWithin => parse_tile_info_frmhdr_within::<L>(&inputs.frames, calls),
+            Self::FilmGrainData => parse_film_grain_data::<L>(&inputs.grain, calls),
         }
     }
 }
@@ -177,6 +181,22 @@ fn frames<L: Library>(
             let gb = &mut L::reader(black_box(data));
             call(hdr, black_box(seqhdr), gb);
             mark = mark.wrapping_add(L::frame_mark(black_box(hdr)));
+        }
+        made += list.len() as u64;
+    }
+    (made, mark)
+}
+
+#[inline(never)]
+fn parse_film_grain_data<L: Library>(list: &[GrainInput], calls: u64) -> (u64, u64) {
+    let (mut made, mut mark) = (0, 0_u64);
+    while made < calls {
+        for input in list {
+            let gb = &mut L::reader(black_box(&input.data));
+            let fgd = L::parse_film_grain_data(gb, black_box(input.layout));
+            if let Some(fgd) = black_box(&fgd) {
+                mark = mark.wrapping_add(L::grain_mark(fgd));
+            }
         }
         made += list.len() as u64;
     }

@@ -2,10 +2,10 @@
 
 use crate::case::{Case, Outcome, Place};
 use crate::kind::Kind;
-use crate::records::{HEADER, SEG, TILE};
+use crate::records::{GRAIN, HEADER, SEG, TILE};
 use crate::rule::Rule;
 
-/// What stands in each number that is lent for a header.
+/// What stands in each number that is lent for a header or for film grain parameters.
 const LENT: i64 = 7;
 
 /// The outcome, if document 01 alone decides it.
@@ -20,6 +20,7 @@ pub fn decided(case: &Case, out: &mut Outcome) -> bool {
         Kind::ParseTileInfoFrmhdr | Kind::ParseTileInfoFrmhdrWithin if !in_frame_domain(a) => {
             outside_domain(case, out);
         }
+        Kind::ParseFilmGrainData if !(0..=3).contains(&a[0]) => outside_domain(case, out),
         kind if beyond_limit(kind, a) => {
             out.rule = Some(Rule::Limit);
             out.place = Place {
@@ -40,12 +41,18 @@ fn is_short(kind: Kind, lent: &[i64]) -> bool {
 
 /// Nothing that was lent changes, the place included.
 fn short(case: &Case, out: &mut Outcome) {
-    let a = &case.args;
     out.rule = Some(Rule::Short);
     out.answer = 5;
     out.place = case.place;
+    lent_record(case, out);
+}
+
+/// The record that was lent.
+fn lent_record(case: &Case, out: &mut Outcome) {
+    let a = &case.args;
     match case.kind {
         Kind::ParseSeqHdr => out.record.resize(HEADER, LENT),
+        Kind::ParseFilmGrainData => out.record.resize(GRAIN, LENT),
         Kind::ParseSegInfo => out.record.extend(&a[..SEG]),
         Kind::TileRectangles => lent_numbers(a, out),
         _ => out.record.extend(case.given()),
@@ -67,7 +74,7 @@ fn outside_domain(case: &Case, out: &mut Outcome) {
     out.rule = Some(Rule::Domain);
     out.answer = 4;
     out.place = case.settled();
-    out.record.extend(case.given());
+    lent_record(case, out);
 }
 
 fn is_size(n: i64) -> bool {

@@ -53,6 +53,12 @@ impl Exhaustive {
             Kind::Rows | Kind::TileRectangles | Kind::Callers => vec![],
             Kind::ParseSeqHdr => vec![block(vec![vec![0], vec![1]], few_places())],
             Kind::ParseSegInfo => vec![block(seg_args(), few_places())],
+            Kind::ParseFilmGrainData => {
+                vec![block(
+                    (0..4).map(|layout| vec![layout]).collect(),
+                    few_places(),
+                )]
+            }
             Kind::ParseTileInfoFrmhdr => vec![block(frame_args(), few_places())],
             Kind::ParseTileInfoWithin => {
                 let args = layout_args(&[14], &[[256, 128], [1150, 600]]);

@@ -23,6 +23,7 @@ pub enum Kind {
     TileRectangles,
     ParseTileInfoWithin,
     ParseTileInfoFrmhdrWithin,
+    ParseFilmGrainData,
     /// Several readings by one reader.
     Rows,
     /// The Rust's own callers of the reader, over both readers.
@@ -30,8 +31,8 @@ pub enum Kind {
 }
 
 impl Kind {
-    /// In the order of their numbers in the stored list, which has the first 19.
-    pub const ALL: [Self; 21] = [
+    /// In the order of their numbers in the stored list, which has the first 20.
+    pub const ALL: [Self; 22] = [
         Self::GetBit,
         Self::GetBits,
         Self::GetSbits,
@@ -51,6 +52,7 @@ impl Kind {
         Self::TileRectangles,
         Self::ParseTileInfoWithin,
         Self::ParseTileInfoFrmhdrWithin,
+        Self::ParseFilmGrainData,
         Self::Rows,
         Self::Callers,
     ];
@@ -58,7 +60,7 @@ impl Kind {
     /// The readings that answer a number, and bytealign.
     pub const READINGS: usize = 11;
     /// The kinds that the stored list has.
-    pub const STORED: usize = 19;
+    pub const STORED: usize = 20;
 
     pub fn number(self) -> u64 {
         self as u64
@@ -86,6 +88,7 @@ impl Kind {
             Self::TileRectangles => "tile_rectangles",
             Self::ParseTileInfoWithin => "parse_tile_info_within",
             Self::ParseTileInfoFrmhdrWithin => "parse_tile_info_frmhdr_within",
+            Self::ParseFilmGrainData => "parse_film_grain_data",
             Self::Callers => "callers",
         }
     }
@@ -103,6 +106,7 @@ impl Kind {
                 | Self::ParseTileInfoFrmhdr
                 | Self::ParseSegInfo
                 | Self::TileRectangles
+                | Self::ParseFilmGrainData
         ) || self.is_limited()
     }
 
@@ -121,6 +125,7 @@ impl Kind {
             Self::ParseSeqHdr => &[146, 9, 65, 65],
             Self::ParseTileInfoFrmhdr | Self::ParseTileInfoFrmhdrWithin => &[9, 65, 65, 9, 65, 65],
             Self::ParseSegInfo => &[16, 3],
+            Self::ParseFilmGrainData => &[186],
             _ => &[],
         }
     }

@@ -20,6 +20,12 @@ pub fn run(case: &Case, out: &mut Outcome) {
         Kind::ParseTileInfoFrmhdr | Kind::ParseTileInfoFrmhdrWithin => {
             parse_tile_info_frmhdr(case, gb, out);
         }
+        Kind::ParseFilmGrainData => {
+            match mubanlig::parse_film_grain_data(gb, from::pixel_layout(a[0])) {
+                Ok(fgd) => fgd.numbers(&mut out.record),
+                Err(refusal) => out.answer = i64::from(refusal.number()),
+            }
+        }
         Kind::ParseSegInfo => {
             let mut seg = from::seg_info(a);
             mubanlig::parse_seg_info(&mut seg, gb, a[SEG] != 0);

@@ -10,6 +10,8 @@ pub const TILE: usize = 139;
 pub const SEG: usize = 19;
 /// The numbers of a `SequenceHeader`.
 pub const HEADER: usize = 285;
+/// The numbers of a `FilmGrainData`.
+pub const GRAIN: usize = 186;
 
 /// A field as numbers.
 pub trait Numbers {
@@ -27,7 +29,7 @@ macro_rules! plain_numbers {
     };
 }
 
-plain_numbers!(bool, u8, i8, u16, i16, i32, u32);
+plain_numbers!(bool, u8, i8, u16, i16, i32, u32, u64);
 #[cfg(feature = "ours")]
 plain_numbers!(ours::AdaptiveBoolean, ours::PixelLayout);
 plain_numbers!(theirs::AdaptiveBoolean, theirs::PixelLayout);
@@ -136,6 +138,13 @@ record_numbers! { header_names: ours::SequenceHeader, theirs::SequenceHeader {
     tiling.t.col_start_sb, tiling.t.row_start_sb,
 } }
 
+record_numbers! { grain_names: ours::FilmGrainData, theirs::FilmGrainData {
+    chroma_scaling_from_luma, num_points, points,
+    scaling_shift, ar_coeff_lag, ar_coeffs, ar_coeff_shift, grain_scale_shift,
+    uv_mult, uv_luma_mult, uv_offset,
+    overlap_flag, clip_to_restricted_range, mc_identity, block_size,
+} }
+
 /// Records of both libraries from a row of numbers.
 macro_rules! from_numbers {
     ($library:ident) => {
@@ -155,6 +164,15 @@ macro_rules! from_numbers {
                     rows: row[8] as u8,
                     col_start_sb: Box::new(std::array::from_fn(|i| row[9 + i] as u16)),
                     row_start_sb: Box::new(std::array::from_fn(|i| row[74 + i] as u16)),
+                }
+            }
+
+            pub fn pixel_layout(number: i64) -> library::PixelLayout {
+                match number {
+                    0 => library::PixelLayout::I400,
+                    1 => library::PixelLayout::I420,
+                    2 => library::PixelLayout::I422,
+                    _ => library::PixelLayout::I444,
                 }
             }
 

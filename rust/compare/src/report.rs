@@ -3,7 +3,7 @@
 use crate::case::{Case, Outcome, Source};
 use crate::kind::Kind;
 use crate::ours;
-use crate::records::{header_names, seg_names, tile_names};
+use crate::records::{grain_names, header_names, seg_names, tile_names};
 use crate::rule::Rule;
 use crate::tally::Tally;
 use std::fmt::Write;
@@ -37,9 +37,9 @@ pub fn summary(tallies: &[(Kind, Tally)]) -> String {
 fn outcomes(text: &mut String, tallies: &[(Kind, Tally)]) -> std::fmt::Result {
     writeln!(
         text,
-        "| kind | cases | accepted | 1 | 2 | 3 | 4 | 5 | 6 | reader's error | known differences |"
+        "| kind | cases | accepted | 1 | 2 | 3 | 4 | 5 | 6 | 7 | reader's error | known differences |"
     )?;
-    writeln!(text, "|---|{}", "---:|".repeat(10))?;
+    writeln!(text, "|---|{}", "---:|".repeat(11))?;
     for (kind, tally) in tallies {
         write!(
             text,
@@ -165,6 +165,7 @@ fn record_names(kind: Kind) -> Vec<String> {
         Kind::ParseTileInfo | Kind::ParseTileInfoWithin => tile_names(),
         Kind::ParseSeqHdr => header_names(),
         Kind::ParseSegInfo => seg_names(),
+        Kind::ParseFilmGrainData => grain_names(),
         Kind::ParseTileInfoFrmhdr | Kind::ParseTileInfoFrmhdrWithin => {
             [vec!["sb128".to_string()], tile_names()].concat()
         }
@@ -192,6 +193,7 @@ fn arg_names(kind: Kind) -> Vec<String> {
         Kind::GetBitsSubexpU => plain(&["ref_val", "n", "k"]),
         Kind::GetBitsSubexp => plain(&["ref_val", "n"]),
         Kind::ParseSeqHdr => plain(&["strict"]),
+        Kind::ParseFilmGrainData => plain(&["layout"]),
         Kind::ParseSegInfo => [seg_names(), plain(&["ext"])].concat(),
         Kind::ParseTileInfo | Kind::ParseTileInfoWithin => [
             layout("given "),

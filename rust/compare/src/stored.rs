@@ -9,7 +9,7 @@
 
 use crate::case::{Case, Outcome, Place};
 use crate::kind::Kind;
-use crate::records::HEADER;
+use crate::records::{GRAIN, HEADER};
 
 /// The longest case that the list may hold.
 const LONGEST: usize = 60_000;
@@ -35,8 +35,9 @@ pub fn numbers(case: &Case, outcome: &Outcome) -> Vec<u32> {
     }
     match case.kind {
         Kind::Positions => {}
-        // A refused header answers the zero record.
+        // A refused header answers the zero record, and so do refused film grain parameters.
         Kind::ParseSeqHdr if outcome.record.is_empty() => numbers.resize(3 + HEADER, 0),
+        Kind::ParseFilmGrainData if outcome.record.is_empty() => numbers.resize(3 + GRAIN, 0),
         _ => numbers.extend(outcome.record.iter().map(|&number| number as u32)),
     }
     numbers

@@ -7,8 +7,8 @@ use crate::rule::Rule;
 pub struct Tally {
     pub cases: u64,
     pub accepted: u64,
-    /// Refusals 1 to 6.
-    pub refused: [u64; 6],
+    /// Refusals 1 to 7.
+    pub refused: [u64; 7],
     /// The reader's error is set after the call.
     pub error: u64,
     pub rules: [u64; Rule::ALL.len()],

@@ -25,6 +25,10 @@ pub fn run(case: &Case, out: &mut Outcome) {
         Kind::ParseTileInfoFrmhdr | Kind::ParseTileInfoFrmhdrWithin => {
             parse_tile_info_frmhdr(case, gb, out);
         }
+        Kind::ParseFilmGrainData => match gb.parse_film_grain_data(from::pixel_layout(a[0])) {
+            Ok(fgd) => fgd.numbers(&mut out.record),
+            Err(refusal) => out.answer = number(Err(refusal)),
+        },
         Kind::ParseSegInfo => {
             let mut seg = from::seg_info(a);
             gb.parse_seg_info(&mut seg, if a[SEG] != 0 { 16 } else { 8 });
@@ -90,6 +94,7 @@ fn number(answer: Result<(), TealdustError>) -> i64 {
         Err(TealdustError::InvalidSequenceHeader) => 1,
         Err(TealdustError::InvalidTileInfo) => 2,
         Err(TealdustError::InvalidTrailingBits) => 3,
+        Err(TealdustError::InvalidFilmGrainData) => 7,
         Err(other) => unreachable!("{other:?} is no refusal of these functions"),
     }
 }

@@ -3,6 +3,7 @@
 use compare::bits::BitWriter;
 use compare::case::{Case, Outcome, Place};
 use compare::kind::Kind;
+use compare::make::grain::grain;
 use compare::make::header::header;
 use compare::make::make;
 use compare::make::within::{PANEL, set_limit};
@@ -15,6 +16,7 @@ use compare::run::{Plan, differs, run};
 use compare::shrink::shrink;
 use compare::within::tiles;
 use oracle::Reader;
+use oracle::headers::PixelLayout;
 
 fn plan(kind: Kind, seed: u64) -> Plan {
     Plan {
@@ -55,6 +57,26 @@ fn most_made_headers_are_accepted() {
         .filter(|_| Reader::new(&header(&mut rng)).parse_seq_hdr(false).is_ok())
         .count();
     assert!(accepted > 900, "{accepted} of 1000");
+}
+
+#[test]
+fn most_made_film_grain_is_accepted() {
+    let mut rng = Rng::new(5);
+    for layout in [
+        PixelLayout::I400,
+        PixelLayout::I420,
+        PixelLayout::I422,
+        PixelLayout::I444,
+    ] {
+        let accepted = (0..1000)
+            .filter(|_| {
+                let data = grain(&mut rng, layout as i64);
+                Reader::new(&data).parse_film_grain_data(layout).is_ok()
+            })
+            .count();
+        // Some are refused on purpose.
+        assert!((880..1000).contains(&accepted), "{accepted} of 1000");
+    }
 }
 
 #[test]

@@ -35,7 +35,8 @@ fn our_library_gives_the_stored_answers() {
             case.kind,
             Kind::ParseTileInfoFrmhdr | Kind::ParseTileInfoFrmhdrWithin
         );
-        let by_type = is_frame && (case.args[0] > 3 || case.args[148] > 2);
+        let by_type = is_frame && (case.args[0] > 3 || case.args[148] > 2)
+            || case.kind == Kind::ParseFilmGrainData && case.args[0] > 3;
         if outcome.rule != Some(Rule::Short) && !by_type {
             assert!(!run::differs(&case), "{case:?}");
         }

@@ -1,4 +1,4 @@
-//! Finds the three static libraries of the proved reader, or has them proved, and tells cargo to link them.
+//! Finds the four static libraries of the proved reader, or has them proved, and tells cargo to link them.
 //!
 //! They are taken from the folder that `MUBANLIG_LIB_DIR` names; else from `target/staticlib` of the project, where
 //! `rt staticlib` proves and writes them if they are missing or older than the sources. What is linked is a copy that
@@ -19,12 +19,18 @@ use std::{env, process};
 const INTERFACE: u32 = 2;
 
 /// The crates, the libraries made of them, and the function before the interface's number.
-const NAMES: [&str; 3] = ["capi_bits", "capi", "capi_within"];
-const LIBRARIES: [&str; 3] = ["libcapi_bits.a", "libcapi.a", "libcapi_within.a"];
-const MARKS: [&str; 3] = [
+const NAMES: [&str; 4] = ["capi_bits", "capi", "capi_within", "capi_grain"];
+const LIBRARIES: [&str; 4] = [
+    "libcapi_bits.a",
+    "libcapi.a",
+    "libcapi_within.a",
+    "libcapi_grain.a",
+];
+const MARKS: [&str; 4] = [
     "mubanlig_bits_interface_",
     "mubanlig_interface_",
     "mubanlig_within_interface_",
+    "mubanlig_grain_interface_",
 ];
 
 fn main() {
@@ -76,7 +82,7 @@ fn link() -> Result<(), String> {
 fn take_named(folder: &Path, root: Option<&Path>, linked: &Path) -> Result<(), String> {
     copy(folder, linked).map_err(|why| {
         format!(
-            "{} names {}: {why}; name a folder to which `rt staticlib` wrote all three, or unset it",
+            "{} names {}: {why}; name a folder to which `rt staticlib` wrote all four, or unset it",
             settings::FOLDER,
             folder.display()
         )
@@ -107,7 +113,7 @@ fn take_proved(root: &Path, linked: &Path) -> Result<(), String> {
         if let Err(e) = &lock {
             return Err(format!(
                 "{} has to be proved and written, and the project's folder can't be written ({e}): \
-                 make it writable, or set {} to a folder with the three libraries",
+                 make it writable, or set {} to a folder with the four libraries",
                 library.display(),
                 settings::FOLDER
             ));

@@ -28,10 +28,13 @@ pub enum Error {
     ShortBuffer,
     /// 6: a layout has more columns or more rows than the limit. Its bits are used.
     TooManyTiles,
+    /// 7: of film grain more than 14 points in a list, a position past 255, in I420 one chroma list empty and the other not,
+    /// or the reader's error.
+    InvalidFilmGrainData,
 }
 
 impl Error {
-    /// The number of this refusal, 1 to 6.
+    /// The number of this refusal, 1 to 7.
     #[must_use]
     pub fn number(self) -> u32 {
         match self {
@@ -41,6 +44,7 @@ impl Error {
             Self::WrongArguments => 4,
             Self::ShortBuffer => 5,
             Self::TooManyTiles => 6,
+            Self::InvalidFilmGrainData => 7,
         }
     }
 }
@@ -56,6 +60,7 @@ pub(crate) fn answer(number: u32) -> Result<(), Error> {
         4 => Err(Error::WrongArguments),
         5 => Err(Error::ShortBuffer),
         6 => Err(Error::TooManyTiles),
+        7 => Err(Error::InvalidFilmGrainData),
         _ => unreachable!("the library has no answer {number}"),
     }
 }
@@ -71,6 +76,7 @@ impl fmt::Display for Error {
             Self::WrongArguments => "an argument is outside the domain",
             Self::ShortBuffer => "the buffer is too short for all tiles",
             Self::TooManyTiles => "the tile layout has more columns or rows than the limit",
+            Self::InvalidFilmGrainData => "the film grain parameters are invalid or too short",
         })
     }
 }

@@ -7,7 +7,8 @@
 use crate::error::{Error, answer};
 use crate::flat;
 use crate::headers::{
-    FrameType, MAX_SEGMENTS, MAX_TILE_COLS, MAX_TILE_ROWS, SequenceHeader, TileInfo, TileLimit,
+    FilmGrainData, FrameType, MAX_SEGMENTS, MAX_TILE_COLS, MAX_TILE_ROWS, PixelLayout,
+    SequenceHeader, TileInfo, TileLimit,
 };
 use std::mem::{MaybeUninit, offset_of};
 use std::ptr;
@@ -16,6 +17,8 @@ use std::ptr;
 pub(crate) const INFO_BYTES: usize = 9;
 /// The numbers of a sequence header.
 pub(crate) const HEADER_NUMBERS: usize = 146;
+/// The numbers of film grain parameters.
+pub(crate) const GRAIN_NUMBERS: usize = 186;
 
 // The first nine bytes of a `TileInfo` are those of the interface.
 const _: () = assert!(offset_of!(TileInfo, uniform) == 0 && size_of::<bool>() == 1);
@@ -237,6 +240,18 @@ unsafe extern "C" {
         seq_row_start_sb_len: usize,
         max_cols: u8,
         max_rows: u8,
+    ) -> u32;
+
+    #[cfg(test)]
+    fn mubanlig_grain_interface_2() -> u32;
+    fn mubanlig_parse_film_grain_data(
+        s: *const u8,
+        s_len: usize,
+        position: *mut usize,
+        error: *mut u8,
+        layout: u8,
+        fgd: *mut i16,
+        fgd_len: usize,
     ) -> u32;
 }
 
@@ -473,6 +488,31 @@ pub(crate) fn parse_tile_info_frmhdr(
             limit.rows
         ),
     }
+}
+
+#[inline]
+pub(crate) fn parse_film_grain_data(
+    s: &[u8],
+    position: &mut usize,
+    error: &mut u8,
+    layout: PixelLayout,
+) -> Result<FilmGrainData, Error> {
+    let mut numbers = MaybeUninit::<[i16; GRAIN_NUMBERS]>::uninit();
+    // SAFETY: all is lent by references; the library reads none of the numbers.
+    answer(unsafe {
+        mubanlig_parse_film_grain_data(
+            s.as_ptr(),
+            s.len(),
+            position,
+            error,
+            layout as u8,
+            numbers.as_mut_ptr().cast(),
+            GRAIN_NUMBERS,
+        )
+    })?;
+    // SAFETY: accepted parameters write every number.
+    let numbers = unsafe { numbers.assume_init_ref() };
+    Ok(flat::film_grain_data(numbers))
 }
 
 #[inline]

@@ -1,27 +1,33 @@
-//! A sequence header from the row of numbers in which it crosses: depth first through the library's nested records, in
-//! the order of their declaration. Its layout crosses by itself.
+//! A sequence header and film grain parameters from the row of numbers in which each crosses: depth first through the
+//! library's nested records, in the order of their declaration. A header's layout crosses by itself.
 
 // Each number is one of its field's type, by the library's contract.
 #![allow(clippy::cast_possible_truncation, clippy::cast_sign_loss)]
 
-use crate::ffi::HEADER_NUMBERS;
+use crate::ffi::{GRAIN_NUMBERS, HEADER_NUMBERS};
 use crate::headers::{
-    AdaptiveBoolean, CropInfo, PixelLayout, SegmentationDataSet, SeqSegmentation, SeqTiling,
-    SequenceHeader, TileInfo,
+    AdaptiveBoolean, CropInfo, FilmGrainData, PixelLayout, SegmentationDataSet, SeqSegmentation,
+    SeqTiling, SequenceHeader, TileInfo,
 };
+use std::array::from_fn;
 
-/// Takes the numbers of a header one after the other.
-struct Row<'a> {
-    numbers: &'a [i64; HEADER_NUMBERS],
+/// Takes the numbers of a record one after the other.
+struct Row<'a, T, const N: usize> {
+    numbers: &'a [T; N],
     next: usize,
 }
 
-impl Row<'_> {
+impl<T: Copy + Into<i64>, const N: usize> Row<'_, T, N> {
     #[inline(always)]
     fn number(&mut self) -> i64 {
-        let number = self.numbers[self.next];
+        let number = self.numbers[self.next].into();
         self.next += 1;
         number
+    }
+
+    #[inline(always)]
+    fn i32(&mut self) -> i32 {
+        self.number() as i32
     }
 
     #[inline(always)]
@@ -55,7 +61,7 @@ impl Row<'_> {
 
     #[inline(always)]
     fn bytes(&mut self) -> [u8; 8] {
-        std::array::from_fn(|_| self.u8())
+        from_fn(|_| self.u8())
     }
 
     #[inline(always)]
@@ -76,7 +82,7 @@ impl Row<'_> {
             info_present: self.flag(),
             adaptive: self.flag(),
             d: SegmentationDataSet {
-                delta_q: std::array::from_fn(|_| self.number() as i16),
+                delta_q: from_fn(|_| self.number() as i16),
                 delta_q_mask: self.number() as u16,
                 skip_mask: self.number() as u16,
                 globalmv_mask: self.number() as u16,
@@ -106,8 +112,8 @@ pub(crate) fn sequence_header(numbers: &[i64; HEADER_NUMBERS], t: TileInfo) -> S
         monotonic: row.flag(),
         width_n_bits: row.u8(),
         height_n_bits: row.u8(),
-        max_width: row.number() as i32,
-        max_height: row.number() as i32,
+        max_width: row.i32(),
+        max_height: row.i32(),
         crop: row.crop(),
         tlayer_dependency_present: row.flag(),
         mlayer_dependency_present: row.flag(),
@@ -198,6 +204,29 @@ pub(crate) fn sequence_header(numbers: &[i64; HEADER_NUMBERS], t: TileInfo) -> S
             t,
         },
         film_grain_present: row.flag(),
+    }
+}
+
+/// The film grain parameters of a row of numbers.
+#[inline(always)]
+pub(crate) fn film_grain_data(numbers: &[i16; GRAIN_NUMBERS]) -> FilmGrainData {
+    let mut row = Row { numbers, next: 0 };
+    FilmGrainData {
+        chroma_scaling_from_luma: row.flag(),
+        num_points: from_fn(|_| row.i32()),
+        points: from_fn(|_| from_fn(|_| [row.u8(), row.u8()])),
+        scaling_shift: row.i32(),
+        ar_coeff_lag: row.i32(),
+        ar_coeffs: from_fn(|_| from_fn(|_| row.number() as i8)),
+        ar_coeff_shift: row.number() as u64,
+        grain_scale_shift: row.i32(),
+        uv_mult: from_fn(|_| row.i32()),
+        uv_luma_mult: from_fn(|_| row.i32()),
+        uv_offset: from_fn(|_| row.i32()),
+        overlap_flag: row.flag(),
+        clip_to_restricted_range: row.flag(),
+        mc_identity: row.flag(),
+        block_size: row.i32(),
     }
 }
 

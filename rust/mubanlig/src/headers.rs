@@ -437,6 +437,45 @@ pub struct SeqTiling {
     pub t: TileInfo,
 }
 
+/// Film grain parameters. Of three planes luma comes first; of two there are the chroma planes alone.
+///
+/// Only the first `num_points` points of a plane and the first coefficients that `ar_coeff_lag` asks for count: those
+/// behind are 0.
+#[derive(Debug, Clone, Copy, PartialEq, Eq, Default)]
+pub struct FilmGrainData {
+    /// Whether chroma is scaled by luma's list: then both chroma lists are empty, and `uv_mult`, `uv_luma_mult` and
+    /// `uv_offset` are 0.
+    pub chroma_scaling_from_luma: bool,
+    /// The points of each plane's scaling function, 0 to 14.
+    pub num_points: [i32; 3],
+    /// Position and value of each point. Positions never fall, and may be equal.
+    pub points: [[[u8; 2]; 14]; 3],
+    /// The shift of the scaled noise, 8 to 11.
+    pub scaling_shift: i32,
+    /// How far the autoregression looks back, 0 to 3: 2 × lag × (lag + 1) coefficients.
+    pub ar_coeff_lag: i32,
+    /// The coefficients of each plane; a chroma plane has one more, for luma, where luma has points.
+    pub ar_coeffs: [[i8; 28]; 3],
+    /// The shift of the coefficients, 6 to 9.
+    pub ar_coeff_shift: u64,
+    /// The shift of the random numbers, 0 to 3.
+    pub grain_scale_shift: i32,
+    /// The factor of chroma in the index of its scaling function, −128 to 127.
+    pub uv_mult: [i32; 2],
+    /// The factor of luma in it, −128 to 127.
+    pub uv_luma_mult: [i32; 2],
+    /// What is added to it, −256 to 255.
+    pub uv_offset: [i32; 2],
+    /// Whether the blocks of noise overlap.
+    pub overlap_flag: bool,
+    /// Whether the picture is held to the restricted range.
+    pub clip_to_restricted_range: bool,
+    /// Whether that range is the one of the identity matrix; read only where the picture is held to it.
+    pub mc_identity: bool,
+    /// The code of the size of a block of noise, 0 or 1.
+    pub block_size: i32,
+}
+
 /// A frame's tile layout.
 #[derive(Debug, Clone, Default, PartialEq)]
 pub struct FhTiling {

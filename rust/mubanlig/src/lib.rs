@@ -1,4 +1,4 @@
-//! AV2 sequence headers and tile layouts, read by a proved library.
+//! AV2 sequence headers, tile layouts and film grain parameters, read by a proved library.
 //!
 //! This crate stands where a viewer used tealdust's reader: the names of its functions, records and fields are
 //! the same. The reading itself is done by a library written in Rattle, in which each function is proved to
@@ -46,12 +46,12 @@ mod rectangles;
 pub use error::Error;
 pub use getbits::{GetBits, Place};
 pub use headers::{
-    AdaptiveBoolean, CropInfo, FhTiling, FrameHeader, FrameType, MAX_SEGMENTS, MAX_TILE_COLS,
-    MAX_TILE_ROWS, PixelLayout, SegmentationDataSet, SeqSegmentation, SeqTiling, SequenceHeader,
-    TileInfo, TileLimit,
+    AdaptiveBoolean, CropInfo, FhTiling, FilmGrainData, FrameHeader, FrameType, MAX_SEGMENTS,
+    MAX_TILE_COLS, MAX_TILE_ROWS, PixelLayout, SegmentationDataSet, SeqSegmentation, SeqTiling,
+    SequenceHeader, TileInfo, TileLimit,
 };
 pub use obu::{
-    parse_seg_info, parse_seq_hdr, parse_tile_info, parse_tile_info_frmhdr,
+    parse_film_grain_data, parse_seg_info, parse_seq_hdr, parse_tile_info, parse_tile_info_frmhdr,
     parse_tile_info_frmhdr_parts, parse_tile_info_frmhdr_within, parse_tile_info_within,
 };
 pub use rectangles::tile_rectangles;

@@ -4,7 +4,8 @@ use crate::error::{Error, answer};
 use crate::ffi;
 use crate::getbits::GetBits;
 use crate::headers::{
-    FrameHeader, FrameType, SegmentationDataSet, SequenceHeader, TileInfo, TileLimit,
+    FilmGrainData, FrameHeader, FrameType, PixelLayout, SegmentationDataSet, SequenceHeader,
+    TileInfo, TileLimit,
 };
 
 /// Reads the features of 8 segments, or of 16 with the extension. The masks are added to those of `seg`, by OR.
@@ -343,4 +344,45 @@ fn read_frame_parts(
     answer(ffi::parse_tile_info_frmhdr(
         data, position, error, frame_type, width, height, sb128, tiling, seqhdr, limit,
     ))
+}
+
+/// Reads film grain parameters; `layout` is that of the sequence.
+///
+/// Unlike a layout's reading this one asks the reader's error, at its end: short data is refused, and so is all that is read
+/// by a reader whose error was set before.
+///
+/// # Errors
+///
+/// [`InvalidFilmGrainData`](Error::InvalidFilmGrainData) for a list of more than 14 points or a position past 255, right
+/// behind the bits that tell it; in I420 for one chroma list that is empty and another that is not, behind both; and at the
+/// end for the reader's error.
+///
+/// ```
+/// use mubanlig::{Error, GetBits, PixelLayout, parse_film_grain_data};
+///
+/// let data = [0x17, 0x84, 0x10, 0x20, 0x60, 0x00, 0xD1, 0xF1, 0x87, 0xDB, 0x40];
+/// let fgd = parse_film_grain_data(&mut GetBits::new(&data), PixelLayout::I420)?;
+/// assert_eq!(fgd.num_points, [2, 0, 0]);
+/// assert_eq!(fgd.points[0][..2], [[16, 32], [80, 96]]);
+/// assert_eq!((fgd.scaling_shift, fgd.ar_coeff_lag), (11, 1));
+/// assert_eq!(fgd.ar_coeffs[0][..4], [-1, 1, 0, 15]);
+///
+/// // Without its last byte it is refused.
+/// let mut gb = GetBits::new(&data[..10]);
+/// let refusal = parse_film_grain_data(&mut gb, PixelLayout::I420);
+/// assert_eq!(refusal, Err(Error::InvalidFilmGrainData));
+/// assert!(gb.has_error());
+///
+/// // 15 points are refused behind the four bits, and are no error of the reader.
+/// let mut gb = GetBits::new(&[0xF0]);
+/// assert!(parse_film_grain_data(&mut gb, PixelLayout::I400).is_err());
+/// assert_eq!((gb.place().used, gb.has_error()), (4, false));
+/// # Ok::<(), mubanlig::Error>(())
+/// ```
+pub fn parse_film_grain_data(
+    gb: &mut GetBits,
+    layout: PixelLayout,
+) -> Result<FilmGrainData, Error> {
+    let (data, position, error) = gb.parts();
+    ffi::parse_film_grain_data(data, position, error, layout)
 }

@@ -36,6 +36,7 @@ fn the_libraries_are_whole_and_of_the_interface() {
         ("libcapi_bits.a", "mubanlig_bits_interface_"),
         ("libcapi.a", MARK),
         ("libcapi_within.a", "mubanlig_within_interface_"),
+        ("libcapi_grain.a", "mubanlig_grain_interface_"),
     ] {
         let path = Path::new(env!("MUBANLIG_LIBRARIES")).join(name);
         assert_eq!(check(&fs::read(path).unwrap(), mark, 2), Ok(()), "{name}");
@@ -46,7 +47,11 @@ fn the_libraries_are_whole_and_of_the_interface() {
 fn another_interface_is_said() {
     let fault = check(&renumbered(b'3'), MARK, 2).unwrap_err();
     assert_eq!(fault.to_string(), "has interface 3, and this crate needs 2");
-    for mark in ["mubanlig_bits_interface_", "mubanlig_within_interface_"] {
+    for mark in [
+        "mubanlig_bits_interface_",
+        "mubanlig_within_interface_",
+        "mubanlig_grain_interface_",
+    ] {
         let fault = check(&library(), mark, 2).unwrap_err();
         assert_eq!(fault, Fault::NoInterface { needed: 2 });
     }

@@ -38,6 +38,7 @@ fn compiled(variable: &str, default: &str, language: [&str; 3]) -> Option<PathBu
             "-lcapi_bits",
             "-lcapi",
             "-lcapi_within",
+            "-lcapi_grain",
             "-o",
         ])
         .arg(&program)

@@ -1,10 +1,10 @@
 //! The readings of document 01, and places where people trip.
 
 use mubanlig::{
-    AdaptiveBoolean, Error, FrameHeader, FrameType, GetBits, PixelLayout, Place, SequenceHeader,
-    TileInfo, TileLimit, parse_seq_hdr, parse_tile_info, parse_tile_info_frmhdr,
-    parse_tile_info_frmhdr_parts, parse_tile_info_frmhdr_within, parse_tile_info_within,
-    tile_rectangles,
+    AdaptiveBoolean, Error, FilmGrainData, FrameHeader, FrameType, GetBits, PixelLayout, Place,
+    SequenceHeader, TileInfo, TileLimit, parse_film_grain_data, parse_seq_hdr, parse_tile_info,
+    parse_tile_info_frmhdr, parse_tile_info_frmhdr_parts, parse_tile_info_frmhdr_within,
+    parse_tile_info_within, tile_rectangles,
 };
 
 /// A layout read over a fresh record at level 0, tier 0; and whether the reader's error is set.
@@ -399,6 +399,193 @@ fn starts_of_any_record() {
         (t.col_starts().len(), t.row_starts().len(), t.tiles()),
         (65, 65, 64 * 255)
     );
+}
+
+const LAYOUTS: [PixelLayout; 4] = [
+    PixelLayout::I400,
+    PixelLayout::I420,
+    PixelLayout::I422,
+    PixelLayout::I444,
+];
+/// Those with chroma.
+const CHROMA: [PixelLayout; 3] = [PixelLayout::I420, PixelLayout::I422, PixelLayout::I444];
+
+/// Bytes of bits that are written field by field, the last byte filled up with zeros.
+fn bits(fields: &str) -> Vec<u8> {
+    let bits: Vec<u8> = fields.bytes().filter(|&c| c != b' ').collect();
+    let byte = |bits: &[u8]| (0..8).fold(0, |n, i| n << 1 | u8::from(bits.get(i) == Some(&b'1')));
+    bits.chunks(8).map(byte).collect()
+}
+
+/// Film grain parameters from the first bit on, the bits used, and the error.
+fn grain(layout: PixelLayout, data: &[u8]) -> (Result<FilmGrainData, Error>, usize, bool) {
+    let mut gb = GetBits::new(data);
+    let read = parse_film_grain_data(&mut gb, layout);
+    let Place { byte, used, error } = gb.place();
+    (read, 8 * byte + used as usize, error)
+}
+
+/// Accepted parameters that use so many bits.
+fn accepted_grain(layout: PixelLayout, data: &[u8], used: usize) -> FilmGrainData {
+    let (read, bits, error) = grain(layout, data);
+    assert_eq!((bits, error), (used, false));
+    read.unwrap()
+}
+
+const NO_GRAIN: Result<FilmGrainData, Error> = Err(Error::InvalidFilmGrainData);
+
+/// All planes and all fields.
+#[test]
+fn film_grain() {
+    let data = bits(concat!(
+        "0 0010 111 10 00010000 0100000 01000000 1100000", // luma: 16 to 32, 80 to 96
+        "0001 110 11 1111111 11111111",                    // 127 to 255
+        "0001 000 00 1 00001",                             // 1 to 1
+        "11 01",                                           // the shift, the lag
+        "00 01111 10001 10000 11111",
+        "11 00000000 11111111 10000000 10000001 01111111",
+        "01 000000 111111 100000 100001 011111",
+        "01 10",
+        "00000000 11111111 000000000",
+        "10000001 01111111 111111111",
+        "1 1 1 1",
+    ));
+    for layout in CHROMA {
+        let fgd = accepted_grain(layout, &data, 237);
+        let mut expected = FilmGrainData {
+            num_points: [2, 1, 1],
+            scaling_shift: 11,
+            ar_coeff_lag: 1,
+            ar_coeff_shift: 7,
+            grain_scale_shift: 2,
+            uv_mult: [-128, 1],
+            uv_luma_mult: [127, -1],
+            uv_offset: [-256, 255],
+            overlap_flag: true,
+            clip_to_restricted_range: true,
+            mc_identity: true,
+            block_size: 1,
+            ..Default::default()
+        };
+        expected.points[0][..2].copy_from_slice(&[[16, 32], [80, 96]]);
+        expected.points[1][0] = [127, 255];
+        expected.points[2][0] = [1, 1];
+        expected.ar_coeffs[0][..4].copy_from_slice(&[-1, 1, 0, 15]);
+        expected.ar_coeffs[1][..5].copy_from_slice(&[-128, 127, 0, 1, -1]);
+        expected.ar_coeffs[2][..5].copy_from_slice(&[-32, 31, 0, 1, -1]);
+        assert_eq!(fgd, expected);
+    }
+}
+
+/// One plane, and no bit that says whether chroma is scaled from luma.
+#[test]
+fn film_grain_without_chroma() {
+    let mut expected = FilmGrainData {
+        scaling_shift: 8,
+        ar_coeff_shift: 6,
+        ..Default::default()
+    };
+    assert_eq!(accepted_grain(PixelLayout::I400, &[0; 2], 15), expected);
+    for layout in CHROMA {
+        assert_eq!(accepted_grain(layout, &[0; 3], 24), expected);
+    }
+    expected.mc_identity = true;
+    expected.clip_to_restricted_range = true;
+    let data = bits("0000 00 00 00 00 0 1 1 0");
+    assert_eq!(accepted_grain(PixelLayout::I400, &data, 16), expected);
+}
+
+#[test]
+fn equal_positions_are_accepted() {
+    let data = bits("0010 000 00 1 00001 0 00010 00 00 00 00 00 0 0 0");
+    assert_eq!(data, [0x20, 0x42, 0x10, 0x00, 0x00]);
+    let fgd = accepted_grain(PixelLayout::I400, &data, 34);
+    assert_eq!(fgd.points[0][..3], [[1, 1], [1, 2], [0, 0]]);
+    // Also the last position that there is.
+    let data = bits("0010 111 00 11111111 00001 00000000 00010 00 00 00 00 00 0 0 0");
+    let fgd = accepted_grain(PixelLayout::I400, &data, 48);
+    assert_eq!(fgd.points[0][..2], [[255, 1], [255, 2]]);
+}
+
+/// The width of both chroma planes' coefficients is read, though there are none.
+#[test]
+fn chroma_from_luma_without_luma_points() {
+    for layout in CHROMA {
+        let fgd = accepted_grain(layout, &[0x80, 0x00, 0x00], 20);
+        assert!(fgd.chroma_scaling_from_luma);
+        assert_eq!((fgd.num_points, fgd.ar_coeff_shift), ([0; 3], 6));
+        // Behind 1 0000 00 00 both widths, then the shift.
+        let fgd = accepted_grain(layout, &bits("1 0000 00 00 11 11 01 10 0 0 0"), 20);
+        assert_eq!((fgd.ar_coeff_shift, fgd.grain_scale_shift), (7, 2));
+        assert_eq!((fgd.uv_mult, fgd.uv_luma_mult), ([0; 2], [0; 2]));
+        assert_eq!((fgd.uv_offset, fgd.ar_coeffs), ([0; 2], [[0; 28]; 3]));
+        // With a lag they have coefficients, and luma none.
+        let lag_1 = "1 0000 00 01 00 00000 00001 00010 00011 00 11111 11110 11101 11100";
+        let fgd = accepted_grain(layout, &bits(&(lag_1.to_string() + "11 00 0 0 0")), 60);
+        assert_eq!(fgd.ar_coeffs[0], [0; 28]);
+        assert_eq!(fgd.ar_coeffs[1][..5], [-16, -15, -14, -13, 0]);
+        assert_eq!(fgd.ar_coeffs[2][..5], [15, 14, 13, 12, 0]);
+        assert_eq!(fgd.ar_coeff_shift, 9);
+    }
+}
+
+/// For luma's noise. Luma itself has none with lag 0.
+#[test]
+fn with_luma_points_chroma_has_one_coefficient_more() {
+    for layout in CHROMA {
+        let fgd = accepted_grain(layout, &[0x88, 0x00, 0x00, 0x00, 0x00, 0x00], 43);
+        assert_eq!(fgd.num_points, [1, 0, 0]);
+        let first = fgd.ar_coeffs.map(|plane| [plane[0], plane[1]]);
+        assert_eq!(first, [[0, 0], [-16, 0], [-16, 0]]);
+        assert_eq!((fgd.uv_mult, fgd.uv_offset), ([0; 2], [0; 2]));
+    }
+}
+
+/// All is read, and refused at the end.
+#[test]
+fn an_error_before_is_refused_behind_film_grain() {
+    for layout in LAYOUTS {
+        let (read, used, _) = grain(layout, &[0; 3]);
+        assert!(read.is_ok());
+        let start = Place {
+            error: true,
+            ..Place::default()
+        };
+        let mut gb = GetBits::at_place(&[0; 3], start);
+        assert_eq!(parse_film_grain_data(&mut gb, layout), NO_GRAIN);
+        let Place { byte, used: u, .. } = gb.place();
+        assert_eq!(8 * byte + u as usize, used);
+        assert!(gb.has_error());
+    }
+}
+
+#[test]
+fn refused_film_grain() {
+    assert_eq!(Error::InvalidFilmGrainData.number(), 7);
+    // 15 points, right behind the four bits.
+    assert_eq!(grain(PixelLayout::I400, &[0xF0]), (NO_GRAIN, 4, false));
+    assert_eq!(grain(PixelLayout::I444, &[0x78]), (NO_GRAIN, 5, false));
+    // A position past 255, right behind its bits.
+    let data = bits("0010 111 00 11111111 00000 00000001");
+    assert_eq!(data, [0x2E, 0x7F, 0x80, 0x04]);
+    assert_eq!(grain(PixelLayout::I400, &data), (NO_GRAIN, 30, false));
+    // One chroma list that is empty and another that is not, in I420 alone.
+    for data in [[0x00, 0x80, 0x00], [0x00, 0x08, 0x00]] {
+        assert_eq!(grain(PixelLayout::I420, &data), (NO_GRAIN, 24, false));
+        for layout in [PixelLayout::I422, PixelLayout::I444] {
+            assert_eq!(grain(layout, &data), (NO_GRAIN, 24, true));
+            let data = [&data[..], &[0; 5]].concat();
+            let fgd = accepted_grain(layout, &data, 62);
+            assert_eq!(fgd.num_points[1] + fgd.num_points[2], 1);
+            assert_eq!(fgd.uv_offset[0] + fgd.uv_offset[1], -256);
+        }
+    }
+    // Data that runs out.
+    for layout in LAYOUTS {
+        assert_eq!(grain(layout, &[]), (NO_GRAIN, 0, true));
+        assert_eq!(grain(layout, &[0x00]), (NO_GRAIN, 8, true));
+    }
+    assert_eq!(grain(PixelLayout::I420, &[0x00; 2]), (NO_GRAIN, 16, true));
 }
 
 /// A viewer may import everything: `Result` is still std's.

@@ -2,7 +2,9 @@
 
 use crate::error::TealdustError;
 use crate::getbits::GetBits;
-use crate::headers::{FrameHeader, SegmentationDataSet, SequenceHeader, TileInfo};
+use crate::headers::{
+    FilmGrainData, FrameHeader, PixelLayout, SegmentationDataSet, SequenceHeader, TileInfo,
+};
 use crate::obu;
 
 /// The Rust's `GetBits`.
@@ -116,6 +118,14 @@ impl<'a> Reader<'a> {
         seqhdr: &SequenceHeader,
     ) -> Result<(), TealdustError> {
         obu::parse_tile_info_frmhdr(hdr, seqhdr, &mut self.gb)
+    }
+
+    #[inline(always)]
+    pub fn parse_film_grain_data(
+        &mut self,
+        layout: PixelLayout,
+    ) -> Result<FilmGrainData, TealdustError> {
+        obu::parse_film_grain_data(&mut self.gb, layout)
     }
 
     /// One of the Rust's callers of the reader, with all that it answers as text.

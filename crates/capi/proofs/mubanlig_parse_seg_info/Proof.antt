@@ -7,7 +7,7 @@ use lib.ListN.{length}
 use Rattle.answers.specs.declared.Answer.the-variants.{Accepted}
 use Rattle.getbits.proofs.Chain.{through, taken, left}
 use Rattle.capi.specs.Calls.{lentSegInfo}
-use Rattle.lent_tiles.proofs.Left.{row, triple, first-fails, second-fails, both-hold}
+use Rattle.lent.proofs.Calls.{row, triple, first-fails, second-fails, both-hold}
 use Rattle.capi.proofs.mubanlig_parse_seg_info.Statement.{statement}
 use Rattle.capi.proofs.mubanlig_parse_seg_info.Tie as tie
 

@@ -10,7 +10,7 @@ use Rattle.flat.specs.Layout.{Buffers, buffers, hasRoom}
 use Rattle.capi.specs.Calls.{lentHeader}
 use Rattle.lent.specs.Lent.{isSet, placeOf}
 use Rattle.seq_hdr.proofs.Refused.{Refused, header-refused}
-use Rattle.lent_tiles.proofs.Left.{row, triple, first-fails, second-fails, both-hold}
+use Rattle.lent.proofs.Calls.{row, triple, first-fails, second-fails, both-hold}
 use Rattle.capi.proofs.Left.{never-5, header-read, header-left}
 use Rattle.capi.proofs.mubanlig_parse_seq_hdr.Statement.{statement}
 use Rattle.capi.proofs.mubanlig_parse_seq_hdr.Tie as tie

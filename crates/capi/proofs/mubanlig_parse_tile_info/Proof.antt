@@ -13,7 +13,8 @@ use Rattle.tile_layout.specs.Limits.{argsOf, inDomain}
 use Rattle.tile_layout.specs.declared.TileArgs.{TileArgs}
 use Rattle.flat.specs.Layout.{Buffers, buffers, hasRoom, layoutIn}
 use Rattle.lent_tiles.specs.Calls.{handedTiles, lentTiles, lentTileInfo}
-use Rattle.lent_tiles.proofs.Left.{contrary, tiles-short, tiles-number, tiles-kept, demand3-left}
+use Rattle.lent.proofs.Calls.{contrary}
+use Rattle.lent_tiles.proofs.Left.{tiles-short, tiles-number, tiles-kept, demand3-left}
 use Rattle.capi.proofs.mubanlig_parse_tile_info.Statement.{statement}
 use Rattle.capi.proofs.mubanlig_parse_tile_info.Tie as tie
 

@@ -16,8 +16,10 @@ use Rattle.frame_hdr.specs.Frame.{FreshDemand3, parseTileInfoFrmhdr, frameTiles
 use Rattle.frame_hdr.specs.declared.FrameHeader.{FrameHeader}
 use Rattle.frame_hdr.specs.declared.SeqLayout.{SeqLayout}
 use Rattle.flat.specs.Layout.{Buffers, buffers, hasRoom}
-use Rattle.lent_tiles.specs.Calls.{answered, handedFrame, isKnown, frameGiven, seqGiven, lentFrames, lentFrame}
-use Rattle.lent_tiles.proofs.Left.{row, triple, first-fails, second-fails, both-hold, contrary, frames-short, frame-number, code-kept, frame-kept, demand3-left}
+use Rattle.lent.specs.Calls.{answered}
+use Rattle.lent_tiles.specs.Calls.{handedFrame, isKnown, frameGiven, seqGiven, lentFrames, lentFrame}
+use Rattle.lent.proofs.Calls.{row, triple, first-fails, second-fails, both-hold, contrary}
+use Rattle.lent_tiles.proofs.Left.{frames-short, frame-number, code-kept, frame-kept, demand3-left}
 use Rattle.capi.proofs.mubanlig_parse_tile_info_frmhdr.Statement.{statement}
 use Rattle.capi.proofs.mubanlig_parse_tile_info_frmhdr.Tie as tie
 

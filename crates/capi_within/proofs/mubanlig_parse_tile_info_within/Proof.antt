@@ -14,7 +14,8 @@ use Rattle.tile_layout.specs.Limits.{argsOf}
 use Rattle.tile_layout.specs.declared.TileArgs.{TileArgs}
 use Rattle.flat.specs.Layout.{Buffers, buffers, hasRoom, layoutIn}
 use Rattle.lent_tiles.specs.Calls.{handedTiles, lentTiles, lentTileInfo}
-use Rattle.lent_tiles.proofs.Left.{contrary, tiles-short, tiles-number, tiles-kept}
+use Rattle.lent.proofs.Calls.{contrary}
+use Rattle.lent_tiles.proofs.Left.{tiles-short, tiles-number, tiles-kept}
 use Rattle.tile_limit.specs.Promises.{LimitedTiles}
 use Rattle.tile_limit.specs.Within.{wall, parseTileInfoWithin}
 use Rattle.tile_limit.specs.declared.TileLimit.{TileLimit}

@@ -12,7 +12,8 @@ use Rattle.frame_hdr.specs.Frame.{frameTiles}
 use Rattle.tile_layout.specs.declared.TileRead.{TileRead}
 use Rattle.frame_hdr.specs.declared.FrameRead.{FrameRead}
 use Rattle.lent_tiles.specs.Calls.{handedTiles, handedFrame}
-use Rattle.lent_tiles.proofs.Left.{triple, tiles-number}
+use Rattle.lent.proofs.Calls.{triple}
+use Rattle.lent_tiles.proofs.Left.{tiles-number}
 use Rattle.lent_tiles.proofs.hand_back_frame.Statement.{statement}
 use Rattle.lent_tiles.proofs.hand_back_frame.Tie as tie
 

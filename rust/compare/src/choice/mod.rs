@@ -6,6 +6,7 @@
 mod by_rule;
 mod document;
 mod frames;
+mod grain;
 mod headers;
 mod layouts;
 mod readings;
@@ -29,6 +30,7 @@ pub fn cases(seed: u64) -> Vec<Case> {
     frames::add(&mut list, seed);
     by_rule::add(&mut list, seed);
     within::add(&mut list, seed);
+    grain::add(&mut list, seed);
     list
 }
 

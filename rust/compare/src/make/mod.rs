@@ -4,6 +4,7 @@ mod bytes;
 mod callers;
 mod damage;
 mod frames;
+pub mod grain;
 pub mod header;
 pub mod layouts;
 mod readings;
@@ -30,6 +31,7 @@ fn made(rng: &mut Rng, case: &mut Case, scratch: &mut Outcome) -> Source {
     let mut source = Source::Random;
     match case.kind {
         Kind::ParseSeqHdr => source = header::case(rng, case),
+        Kind::ParseFilmGrainData => source = grain::case(rng, case),
         Kind::ParseTileInfo => layouts::layout_case(rng, case),
         Kind::ParseTileInfoFrmhdr => frames::case(rng, case),
         Kind::ParseTileInfoWithin => within::layout_case(rng, case),

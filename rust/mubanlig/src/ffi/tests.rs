@@ -17,6 +17,7 @@ struct Lent {
     info: [u8; INFO_BYTES],
     cols: [u16; 65],
     rows: [u16; 65],
+    fgd: [i16; GRAIN_NUMBERS + 2],
 }
 
 const LENT: Lent = Lent {
@@ -28,6 +29,7 @@ const LENT: Lent = Lent {
     info: [6; INFO_BYTES],
     cols: [1023; 65],
     rows: [1024; 65],
+    fgd: [-2; GRAIN_NUMBERS + 2],
 };
 
 /// The lengths told of the nine bytes and both lists of starts.
@@ -174,6 +176,24 @@ fn frame(
     (answer, lent)
 }
 
+/// Film grain parameters from a place in some data.
+fn film_grain(data: &[u8], place: (usize, u8), layout: u8, numbers: usize) -> (u32, Lent) {
+    let mut lent = Lent { place, ..LENT };
+    // SAFETY: the buffers are at least as long as told.
+    let answer = unsafe {
+        mubanlig_parse_film_grain_data(
+            data.as_ptr(),
+            data.len(),
+            &raw mut lent.place.0,
+            &raw mut lent.place.1,
+            layout,
+            lent.fgd.as_mut_ptr(),
+            numbers,
+        )
+    };
+    (answer, lent)
+}
+
 #[test]
 fn the_libraries_are_those_of_this_interface() {
     // SAFETY: nothing is lent.
@@ -182,9 +202,10 @@ fn the_libraries_are_those_of_this_interface() {
             mubanlig_bits_interface_2(),
             mubanlig_interface_2(),
             mubanlig_within_interface_2(),
+            mubanlig_grain_interface_2(),
         ]
     };
-    assert_eq!(numbers, [2, 2, 2]);
+    assert_eq!(numbers, [2, 2, 2, 2]);
 }
 
 #[test]
@@ -194,6 +215,12 @@ fn a_short_buffer_is_5_and_changes_nothing() {
         assert_eq!(seg_info(delta_qs, mask_count), refused);
     }
     assert_eq!(header(HEADER_NUMBERS - 1, LONG), refused);
+    // Asked before the layout.
+    for layout in [0, 3, 4, 255] {
+        for numbers in [0, 1, GRAIN_NUMBERS - 1] {
+            assert_eq!(film_grain(&DATA, PLACE, layout, numbers), refused);
+        }
+    }
     for lengths in SHORT {
         assert_eq!(header(HEADER_NUMBERS, lengths), refused);
         for limit in LIMITS {
@@ -219,6 +246,9 @@ fn wrong_arguments_are_4_and_change_no_buffer() {
         assert_eq!(layout(LONG, 0, limit), refused);
         assert_eq!(frame(4, 0, LONG, LONG, limit), refused);
         assert_eq!(frame(0, 3, LONG, LONG, limit), refused);
+    }
+    for layout in [4, 5, 128, 255] {
+        assert_eq!(film_grain(&DATA, PLACE, layout, GRAIN_NUMBERS), refused);
     }
 }
 
@@ -287,5 +317,44 @@ fn a_short_layout_has_no_rectangles() {
             )
         };
         assert_eq!((answer, out), (5, [9; 8]));
+    }
+}
+
+/// What was lent to a film grain reading, with other numbers in the place of the first ones.
+fn left(place: (usize, u8), numbers: &[i16]) -> Lent {
+    let mut lent = Lent { place, ..LENT };
+    lent.fgd[..numbers.len()].copy_from_slice(numbers);
+    lent
+}
+
+#[test]
+fn refused_film_grain_is_7_and_has_the_zero_record() {
+    let zero = [0; GRAIN_NUMBERS];
+    for numbers in [GRAIN_NUMBERS, GRAIN_NUMBERS + 1, GRAIN_NUMBERS + 2] {
+        // The error before; 15 points; no data.
+        assert_eq!(
+            film_grain(&[0, 0], (0, 7), 0, numbers),
+            (7, left((15, 7), &zero))
+        );
+        assert_eq!(
+            film_grain(&[0x0F], (4, 0), 0, numbers),
+            (7, left((8, 0), &zero))
+        );
+        assert_eq!(
+            film_grain(&[], (41, 0), 1, numbers),
+            (7, left((0, 1), &zero))
+        );
+    }
+}
+
+#[test]
+fn accepted_film_grain_writes_186_numbers() {
+    let mut fgd = [0; GRAIN_NUMBERS];
+    (fgd[88], fgd[174]) = (8, 6);
+    for numbers in [GRAIN_NUMBERS, GRAIN_NUMBERS + 2] {
+        assert_eq!(
+            film_grain(&[0, 0], (0, 0), 0, numbers),
+            (0, left((15, 0), &fgd))
+        );
     }
 }

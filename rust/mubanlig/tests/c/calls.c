@@ -25,6 +25,8 @@ static void check(int holds, const char *claim, int line)
 
 /* The numbers of out: enough for 16 tiles and some behind. */
 #define OUT 70
+/* The numbers of fgd, and some behind. */
+#define GRAIN (MUBANLIG_GRAIN_NUMBERS + 2)
 
 struct record {
     size_t position;
@@ -37,15 +39,17 @@ struct record {
     uint16_t cols[MUBANLIG_STARTS];
     uint16_t rows[MUBANLIG_STARTS];
     uint32_t out[OUT];
+    int16_t fgd[GRAIN];
 };
 
 /* How long each buffer is told to be. */
 struct lengths {
-    size_t delta_q, masks, hdr, info, cols, rows, out;
+    size_t delta_q, masks, hdr, info, cols, rows, out, fgd;
 };
 
 static const struct lengths LONG = {
-    MUBANLIG_DELTAS, MUBANLIG_MASKS, MUBANLIG_HEADER_NUMBERS, MUBANLIG_INFO_BYTES, MUBANLIG_STARTS, MUBANLIG_STARTS, OUT
+    MUBANLIG_DELTAS, MUBANLIG_MASKS, MUBANLIG_HEADER_NUMBERS, MUBANLIG_INFO_BYTES, MUBANLIG_STARTS, MUBANLIG_STARTS, OUT,
+    MUBANLIG_GRAIN_NUMBERS
 };
 
 /* A copy in a block of its own; NULL for length 0. */
@@ -89,7 +93,7 @@ static int same(const struct record *a, const struct record *b)
         && memcmp(a->delta_q, b->delta_q, sizeof a->delta_q) == 0 && memcmp(a->masks, b->masks, sizeof a->masks) == 0
         && memcmp(a->hdr, b->hdr, sizeof a->hdr) == 0 && memcmp(a->info, b->info, sizeof a->info) == 0
         && memcmp(a->cols, b->cols, sizeof a->cols) == 0 && memcmp(a->rows, b->rows, sizeof a->rows) == 0
-        && memcmp(a->out, b->out, sizeof a->out) == 0;
+        && memcmp(a->out, b->out, sizeof a->out) == 0 && memcmp(a->fgd, b->fgd, sizeof a->fgd) == 0;
 }
 
 /* ---- Calls ---- */
@@ -237,6 +241,16 @@ static uint32_t rectangles(struct record *r, struct lengths n, uint8_t sb128)
     return answer;
 }
 
+static uint32_t film_grain(struct bytes b, struct record *r, struct lengths n, uint8_t pixel_layout)
+{
+    LEND(const uint8_t, s, b.s, b.len);
+    LEND(int16_t, fgd, r->fgd, n.fgd);
+    uint32_t answer = mubanlig_parse_film_grain_data(s, b.len, &r->position, &r->error, pixel_layout, fgd, n.fgd);
+    free((void *)s);
+    TAKE_BACK(fgd, r->fgd, n.fgd);
+    return answer;
+}
+
 #define READINGS 10
 
 /* The reading of a number; signed ones as unsigned. */
@@ -297,6 +311,7 @@ static void interfaces(void)
     CHECK(mubanlig_bits_interface_2() == MUBANLIG_INTERFACE);
     CHECK(mubanlig_interface_2() == MUBANLIG_INTERFACE);
     CHECK(mubanlig_within_interface_2() == MUBANLIG_INTERFACE);
+    CHECK(mubanlig_grain_interface_2() == MUBANLIG_INTERFACE);
 }
 
 static void readings_of_known_bytes(void)
@@ -363,6 +378,7 @@ static void no_data(void)
     CHECK(mubanlig_parse_tile_info_frmhdr_within(NULL, 0, &r.position, &r.error, MUBANLIG_FRAME_KEY, 64, 64, &r.sb128,
         NULL, 0, NULL, 0, NULL, 0, 0, 64, 64, 0, 0, MUBANLIG_OFF, NULL, 0, NULL, 0, NULL, 0,
         MUBANLIG_PANEL_COLS, MUBANLIG_PANEL_ROWS) == MUBANLIG_SHORT_BUFFER);
+    CHECK(mubanlig_parse_film_grain_data(NULL, 0, &r.position, &r.error, MUBANLIG_I420, NULL, 0) == MUBANLIG_SHORT_BUFFER);
     CHECK(same(&r, &zero));
 }
 
@@ -492,6 +508,91 @@ static void within_limits(void)
     }
 }
 
+/* Is what a film grain call left the record with so many first numbers, and behind them what was given? */
+static int left_grain(const struct record *after, const struct record *before, const int16_t *numbers)
+{
+    struct record r = *after;
+    int holds = memcmp(r.fgd, numbers, MUBANLIG_GRAIN_NUMBERS * sizeof *numbers) == 0;
+    memcpy(r.fgd, before->fgd, MUBANLIG_GRAIN_NUMBERS * sizeof *numbers);
+    return holds && keeps_all(&r, before);
+}
+
+/* All planes with points, in buffers that are long enough and longer. */
+static void a_film_grain(void)
+{
+    static const uint8_t S[] = {
+        0x17, 0x84, 0x10, 0x20, 0x60, 0x1D, 0xFF, 0xFF, 0x10, 0x43, 0xA3, 0xE3, 0x0F, 0xE0, 0x1F,
+        0xF0, 0x10, 0x2F, 0xE8, 0x1F, 0xC1, 0x0B, 0xEC, 0x01, 0xFE, 0x00, 0x81, 0x7F, 0xFF, 0xF8
+    };
+    static const struct { int at; int16_t number; } FIELDS[] = {
+        { MUBANLIG_FGD_NUM_POINTS, 2 }, { MUBANLIG_FGD_NUM_POINTS + 1, 1 }, { MUBANLIG_FGD_NUM_POINTS + 2, 1 },
+        { MUBANLIG_FGD_POINTS, 16 }, { MUBANLIG_FGD_POINTS + 1, 32 }, { MUBANLIG_FGD_POINTS + 2, 80 }, { MUBANLIG_FGD_POINTS + 3, 96 },
+        { MUBANLIG_FGD_POINTS + 28, 127 }, { MUBANLIG_FGD_POINTS + 29, 255 },
+        { MUBANLIG_FGD_POINTS + 56, 1 }, { MUBANLIG_FGD_POINTS + 57, 1 },
+        { MUBANLIG_FGD_SCALING_SHIFT, 11 }, { MUBANLIG_FGD_AR_COEFF_LAG, 1 },
+        { MUBANLIG_FGD_AR_COEFFS, -1 }, { MUBANLIG_FGD_AR_COEFFS + 1, 1 }, { MUBANLIG_FGD_AR_COEFFS + 3, 15 },
+        { MUBANLIG_FGD_AR_COEFFS + 28, -128 }, { MUBANLIG_FGD_AR_COEFFS + 29, 127 },
+        { MUBANLIG_FGD_AR_COEFFS + 31, 1 }, { MUBANLIG_FGD_AR_COEFFS + 32, -1 },
+        { MUBANLIG_FGD_AR_COEFFS + 56, -32 }, { MUBANLIG_FGD_AR_COEFFS + 57, 31 },
+        { MUBANLIG_FGD_AR_COEFFS + 59, 1 }, { MUBANLIG_FGD_AR_COEFFS + 60, -1 },
+        { MUBANLIG_FGD_AR_COEFF_SHIFT, 7 }, { MUBANLIG_FGD_GRAIN_SCALE_SHIFT, 2 },
+        { MUBANLIG_FGD_UV_MULT, -128 }, { MUBANLIG_FGD_UV_MULT + 1, 1 },
+        { MUBANLIG_FGD_UV_LUMA_MULT, 127 }, { MUBANLIG_FGD_UV_LUMA_MULT + 1, -1 },
+        { MUBANLIG_FGD_UV_OFFSET, -256 }, { MUBANLIG_FGD_UV_OFFSET + 1, 255 },
+        { MUBANLIG_FGD_OVERLAP_FLAG, 1 }, { MUBANLIG_FGD_CLIP_TO_RESTRICTED_RANGE, 1 },
+        { MUBANLIG_FGD_MC_IDENTITY, 1 }, { MUBANLIG_FGD_BLOCK_SIZE, 1 }
+    };
+    int16_t numbers[MUBANLIG_GRAIN_NUMBERS];
+    struct record given = filled(0x2C), r;
+    struct lengths n = LONG;
+    size_t i;
+    memset(numbers, 0, sizeof numbers);
+    for (i = 0; i < sizeof FIELDS / sizeof FIELDS[0]; i++) {
+        numbers[FIELDS[i].at] = FIELDS[i].number;
+    }
+    given.position = 0;
+    given.error = 0;
+    for (; n.fgd <= GRAIN; n.fgd++) {
+        r = given;
+        CHECK(film_grain(some(S, sizeof S), &r, n, MUBANLIG_I420) == MUBANLIG_ACCEPTED && r.position == 237 && r.error == 0);
+        CHECK(left_grain(&r, &given, numbers));
+    }
+}
+
+/* Refused by the reading: the zero record. A layout that there is not: nothing changes. */
+static void refused_film_grain(void)
+{
+    static const uint8_t POINTS[] = { 0xF0 }, POSITION[] = { 0x2E, 0x7F, 0x80, 0x04 }, LISTS[] = { 0x00, 0x80, 0x00 }, ZEROS[3] = { 0, 0, 0 };
+    static const struct { struct bytes b; uint8_t pixel_layout, error; size_t end; uint8_t end_error; } REFUSED[] = {
+        { { POINTS, sizeof POINTS }, MUBANLIG_I400, 0, 4, 0 },
+        { { POSITION, sizeof POSITION }, MUBANLIG_I400, 0, 30, 0 },
+        { { LISTS, sizeof LISTS }, MUBANLIG_I420, 0, 24, 0 },
+        { { LISTS, sizeof LISTS }, MUBANLIG_I422, 0, 24, 1 },
+        { { ZEROS, sizeof ZEROS }, MUBANLIG_I444, 9, 24, 9 },
+        { { ZEROS, 1 }, MUBANLIG_I400, 0, 8, 1 },
+        { { NULL, 0 }, MUBANLIG_I420, 0, 0, 1 }
+    };
+    static const uint8_t NONE[] = { 4, 5, 128, 255 };
+    int16_t zeros[MUBANLIG_GRAIN_NUMBERS];
+    struct record given = filled(0x2C), r;
+    struct lengths n = LONG;
+    size_t i;
+    memset(zeros, 0, sizeof zeros);
+    given.position = 0;
+    for (; n.fgd <= GRAIN; n.fgd++) {
+        for (i = 0; i < sizeof REFUSED / sizeof REFUSED[0]; i++) {
+            r = given;
+            r.error = REFUSED[i].error;
+            CHECK(film_grain(REFUSED[i].b, &r, n, REFUSED[i].pixel_layout) == MUBANLIG_INVALID_FILM_GRAIN_DATA);
+            CHECK(r.position == REFUSED[i].end && r.error == REFUSED[i].end_error && left_grain(&r, &given, zeros));
+        }
+        for (i = 0; i < sizeof NONE; i++) {
+            r = given;
+            CHECK(film_grain(some(ZEROS, sizeof ZEROS), &r, n, NONE[i]) == MUBANLIG_WRONG_ARGUMENTS && same(&r, &given));
+        }
+    }
+}
+
 /* Refused calls, and what was lent comes back as it was. */
 static void refusals(void)
 {
@@ -576,6 +677,15 @@ static void short_buffers(void)
     /* Past the end, so that a position stored would show. */
     given.position = 1000;
     given.error = 9;
+    for (i = 0; i < 4; i++) {
+        static const size_t SHORT[] = { 0, 1, MUBANLIG_GRAIN_NUMBERS - 1 };
+        for (which = 0; which < sizeof SHORT / sizeof SHORT[0]; which++) {
+            struct lengths n = LONG;
+            n.fgd = SHORT[which];
+            r = given;
+            CHECK(film_grain(some(S, sizeof S), &r, n, (uint8_t)(2 * i)) == MUBANLIG_SHORT_BUFFER && same(&r, &given));
+        }
+    }
     for (which = 0; which < 12; which++) {
         struct lengths n = LONG;
         size_t *length = &n.rows;
@@ -642,6 +752,11 @@ static void past_the_end(void)
         CHECK(header(some(S, sizeof S), &r, LONG, 0) == MUBANLIG_INVALID_SEQUENCE_HEADER && r.position == 16);
         r.position = POSITIONS[i];
         CHECK(seg_info(some(S, sizeof S), &r, LONG, 0) == MUBANLIG_ACCEPTED && r.position == 16);
+        r.position = POSITIONS[i];
+        r.error = 0;
+        CHECK(film_grain(some(S, sizeof S), &r, LONG, 4) == MUBANLIG_WRONG_ARGUMENTS && r.position == 16 && r.error == 0);
+        r.position = POSITIONS[i];
+        CHECK(film_grain(some(S, sizeof S), &r, LONG, 0) == MUBANLIG_INVALID_FILM_GRAIN_DATA && r.position == 16 && r.error == 1);
     }
 }
 
@@ -703,6 +818,50 @@ static int keeps(const struct record *after, const struct record *before, uint32
         r.sb128 = before->sb128;
     }
     return keeps_all(&r, before);
+}
+
+/* What holds of film grain parameters that were accepted: no long list, no position that falls, and zeros behind the last point. */
+static void check_grain(const struct record *r)
+{
+    int plane, i, holds = 1;
+    for (plane = 0; plane < 3; plane++) {
+        const int16_t *point = r->fgd + MUBANLIG_FGD_POINTS + 28 * plane;
+        int count = r->fgd[MUBANLIG_FGD_NUM_POINTS + plane];
+        holds &= 0 <= count && count <= 14;
+        for (i = 0; i < 14; i++, point += 2) {
+            holds &= 0 <= point[0] && point[0] <= 255 && 0 <= point[1] && point[1] <= 255;
+            holds &= i == 0 || i >= count || point[-2] <= point[0];
+            holds &= i < count || (point[0] == 0 && point[1] == 0);
+        }
+    }
+    CHECK(holds && r->error == 0);
+    CHECK(r->fgd[MUBANLIG_FGD_MC_IDENTITY] <= r->fgd[MUBANLIG_FGD_CLIP_TO_RESTRICTED_RANGE]);
+}
+
+/* Random bytes, any layout, and a buffer that may be too short. */
+static void random_film_grain(struct bytes b, const struct record *given)
+{
+    int16_t zeros[MUBANLIG_GRAIN_NUMBERS];
+    struct record r = *given;
+    struct lengths n = LONG;
+    uint8_t pixel_layout = (uint8_t)below(5);
+    uint32_t answer;
+    memset(zeros, 0, sizeof zeros);
+    n.fgd = GRAIN - below(4);
+    answer = film_grain(b, &r, n, pixel_layout);
+    if (n.fgd < MUBANLIG_GRAIN_NUMBERS) {
+        CHECK(answer == MUBANLIG_SHORT_BUFFER && same(&r, given));
+        return;
+    }
+    CHECK(r.position <= 8 * b.len && (given->error == 0 ? r.error <= 1 : r.error == given->error));
+    if (pixel_layout == 4) {
+        CHECK(answer == MUBANLIG_WRONG_ARGUMENTS && keeps_all(&r, given));
+    } else if (answer == MUBANLIG_ACCEPTED) {
+        check_grain(&r);
+        CHECK(left_grain(&r, given, r.fgd));
+    } else {
+        CHECK(answer == MUBANLIG_INVALID_FILM_GRAIN_DATA && left_grain(&r, given, zeros));
+    }
 }
 
 /* A limit beside the counts that were read, the panel's, or any. */
@@ -809,6 +968,8 @@ static void random_turn(void)
     limit = any_limit(&on_wall);
     r = given;
     CHECK(limited(&given, &on_wall, answer, &r, frame_in(b, &r, LONG, f, &seq, LONG, &limit), limit));
+
+    random_film_grain(b, &given);
 }
 
 int main(void)
@@ -821,6 +982,8 @@ int main(void)
     a_header();
     a_frame();
     within_limits();
+    a_film_grain();
+    refused_film_grain();
     refusals();
     short_buffers();
     past_the_end();

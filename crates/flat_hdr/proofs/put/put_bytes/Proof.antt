@@ -5,6 +5,7 @@ use native.Mathlib.Omega.{arith}
 use borrow.Author.Needs.{needs}
 use lib.IntN.{pos}
 use lib.ListN.{length}
+use mir.Syntax.{w64}
 use Rattle.flat.proofs.Rows.{Copied, begun, widened, wide}
 use Rattle.flat_hdr.proofs.put.put_bytes.Statement.{statement}
 use Rattle.flat_hdr.proofs.put.put_bytes.Tie as tie
@@ -28,7 +29,7 @@ loop-again : tie.Need-loop-again Inv-loop μ-loop
 loop-again c =
     let l = c .before .before in
     let a = l .before .args in
-    widened (a .out .now) (a .at) (a .xs .now) (l .before .pre) (l .loop .out) (l .loop .i) (c .before .loop-test .taken) (omega (arith, c .shared-slice-known .given (l .loop .i))) (l .loop .inv)
+    widened (a .out .now) (a .at) (a .xs .now) w64 (l .before .pre) (l .loop .out) (l .loop .i) (c .before .loop-test .taken) (omega (arith, c .shared-slice-known .given (l .loop .i))) (l .loop .inv)
 
 same-length : tie.Need-same-length Inv-loop μ-loop
 same-length c = c .before .loop .inv .long

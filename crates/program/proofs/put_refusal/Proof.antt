@@ -1,13 +1,13 @@
--- `seqhdr::put_refusal` meets its contract. Assumes nothing.
+-- `program::put_refusal` meets its contract. Assumes nothing.
 use borrow.Author.Needs.{needs}
 use native.Mathlib.Omega.{arith}
 use borrow.Author.Tests.{eq-eqb, ne-eqb}
 use Rattle.text.specs.Text.{word}
 use Rattle.text.proofs.Puts.{within}
 use Rattle.text.proofs.Rows.{flag}
-use Rattle.seqhdr.specs.Print.{refusalText}
-use Rattle.seqhdr.proofs.put_refusal.Statement.{statement}
-use Rattle.seqhdr.proofs.put_refusal.Tie as tie
+use Rattle.program.specs.Output.{refusalText}
+use Rattle.program.proofs.put_refusal.Statement.{statement}
+use Rattle.program.proofs.put_refusal.Tie as tie
 
 returns : tie.Need-returns
 unfolding refusalText

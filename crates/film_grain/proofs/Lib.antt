@@ -1,0 +1,5 @@
+pub mod Numbers
+pub mod Stops
+pub mod Answers
+pub mod Lists
+pub mod Refused

@@ -1,0 +1,4 @@
+pub mod Points
+pub mod Coeffs
+pub mod Grain
+pub mod Promises
