@@ -62,6 +62,7 @@ fn bits_less(s: &[u8], p: Place, n: u32, less: u32) -> Less
     }
 }
 
+// No coefficients.
 fn no_coeffs(p: Place) -> CoeffsRead
     ensures { λ r. ⌜ r ≡ noCoeffs p ⌝ }
 {
@@ -69,6 +70,7 @@ fn no_coeffs(p: Place) -> CoeffsRead
     CoeffsRead { list, next: p }
 }
 
+// n coefficients, each less half its range.
 fn read_coeffs(s: &[u8], p: Place, n: usize, coef_bits: u32) -> CoeffsRead
     requires { ⌜ (n ≤ 28) × (1 ≤ «coef_bits») × («coef_bits» ≤ 8) ⌝ }
     ensures { λ r. ⌜ r ≡ coeffsFrom (now (s .entry)) p n «coef_bits» ⌝ }
@@ -97,6 +99,7 @@ fn coeffs_if(s: &[u8], p: Place, n: usize, cond: bool) -> CoeffsRead
     no_coeffs(p)
 }
 
+// How many coefficients a lag gives.
 fn num_pos(lag: u8) -> usize
     requires { ⌜ lag < 4 ⌝ }
     ensures { λ r. ⌜ (r ≡ numPos lag) × (r ≤ 24) ⌝ }

@@ -79,6 +79,7 @@ pub fn no_film_grain() -> FilmGrainData
     }
 }
 
+// Refused: the zero record.
 fn refuse_grain(p: Place) -> FilmGrainRead
     ensures { λ r. ⌜ r ≡ refusedGrain p ⌝ }
 {

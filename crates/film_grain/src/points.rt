@@ -24,6 +24,7 @@ pub struct PointLists {
     pub next: Place,
 }
 
+// Is a list of n points not empty?
 pub fn has_points(n: u8) -> bool
     ensures { λ r. ⌜ r ≡ hasPoints n ⌝ }
 {
@@ -44,6 +45,7 @@ fn no_points(refused: bool, p: Place) -> PointsRead
     }
 }
 
+// n points; a position past 255 ends it.
 fn read_points(s: &[u8], p: Place, n: u8, index_bits: u32, scaling_bits: u32) -> PointsRead
     requires { ⌜ (n ≤ 14) × («index_bits» ≤ 8) ⌝ }
     ensures { λ r. ⌜ r ≡ pointsFrom (now (s .entry)) p n «index_bits» «scaling_bits» ⌝ }
@@ -72,6 +74,7 @@ fn read_points(s: &[u8], p: Place, n: u8, index_bits: u32, scaling_bits: u32) ->
     }
 }
 
+// The points of a plane: how many, the widths of a step and of a value, and these.
 fn plane_points(s: &[u8], p: Place) -> PointsRead
     ensures { λ r. ⌜ r ≡ planePoints (now (s .entry)) p ⌝ }
 {
@@ -89,6 +92,7 @@ fn plane_points(s: &[u8], p: Place) -> PointsRead
     read_points(s, scaling.next, n.value, index_bits, scaling_bits)
 }
 
+// The same under a condition: else none, and the place as it was.
 fn points_if(s: &[u8], p: Place, cond: bool) -> PointsRead
     ensures { λ r. ⌜ r ≡ pointsIf cond (now (s .entry)) p ⌝ }
 {
