@@ -8,6 +8,14 @@ pub struct BitWriter {
 }
 
 impl BitWriter {
+    /// The bits of some bytes.
+    pub fn of(bytes: &[u8]) -> Self {
+        Self {
+            bytes: bytes.to_vec(),
+            used: 8 * bytes.len(),
+        }
+    }
+
     pub fn bit(&mut self, bit: bool) {
         self.bits(bit.into(), 1);
     }

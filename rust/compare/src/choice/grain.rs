@@ -3,11 +3,10 @@
 
 use super::by_rule;
 use crate::bits::BitWriter;
-use crate::case::{Case, Outcome, Place};
+use crate::case::{Case, Place};
 use crate::kind::Kind;
 use crate::make::grain::{I400, PLANES, wished};
 use crate::rng::Rng;
-use crate::rules::expected;
 
 const KIND: Kind = Kind::ParseFilmGrainData;
 
@@ -74,7 +73,7 @@ impl Adder<'_> {
         };
         let mut bits = BitWriter::default();
         bits.bits(self.rng.number(), before as u32);
-        append(&mut bits, &data);
+        bits.append(&BitWriter::of(&data));
         self.case(layout, bits.into_bytes(), Place::behind(before));
     }
 
@@ -240,36 +239,13 @@ impl Adder<'_> {
         for i in 0..80 {
             let layout = i % 4;
             let data = wished(self.rng, layout, if i % 5 == 0 { &[] } else { &SMALL });
-            let mut bits = BitWriter::default();
-            append(&mut bits, &data);
             let whole = Case {
                 data,
                 args: vec![layout],
                 ..Case::of(KIND)
             };
-            let mut outcome = Outcome::default();
-            expected(&whole, &mut outcome);
-            let read = outcome.place.bits() as i64;
-            let kept = if i % 3 == 0 {
-                self.rng.range(0, read)
-            } else {
-                read - self.rng.range(0, 4)
-            };
-            let kept = kept.max(0) as usize;
-            bits.truncate(kept);
-            // The data ends with the last bit kept.
-            let before = (8 - kept % 8) % 8;
-            let mut shifted = BitWriter::default();
-            shifted.bits(self.rng.number(), before as u32);
-            shifted.append(&bits);
-            self.case(layout, shifted.into_bytes(), Place::behind(before));
+            self.list.push(super::cut(self.rng, &whole, i % 3 == 0));
         }
-    }
-}
-
-fn append(bits: &mut BitWriter, data: &[u8]) {
-    for &byte in data {
-        bits.bits(byte.into(), 8);
     }
 }
 

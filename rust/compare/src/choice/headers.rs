@@ -1,11 +1,10 @@
 //! Headers, written field by field: each field's boundary values while all others vary, and data that ends early.
 
 use crate::bits::BitWriter;
-use crate::case::{Case, Outcome, Place};
+use crate::case::{Case, Place};
 use crate::kind::Kind;
 use crate::make::header::wished;
 use crate::rng::Rng;
-use crate::rules::expected;
 
 /// Values of a field, each in so many headers.
 type Boundary = (&'static str, &'static [u64], usize);
@@ -265,37 +264,13 @@ impl Adder<'_> {
                     ("tiling", i % 2),
                 ],
             );
-            let mut bits = BitWriter::default();
-            for &byte in &data {
-                bits.bits(byte.into(), 8);
-            }
             let strict = self.rng.range(0, 1);
             let whole = Case {
                 data,
                 args: vec![strict],
                 ..Case::of(Kind::ParseSeqHdr)
             };
-            let mut outcome = Outcome::default();
-            expected(&whole, &mut outcome);
-            let read = outcome.place.bits() as i64;
-            let kept = if i % 3 == 0 {
-                self.rng.range(0, read)
-            } else {
-                read - self.rng.range(0, 4)
-            };
-            let kept = kept.max(0) as usize;
-            bits.truncate(kept);
-            // The data ends with the last bit kept.
-            let before = (8 - kept % 8) % 8;
-            let mut shifted = BitWriter::default();
-            shifted.bits(self.rng.number(), before as u32);
-            shifted.append(&bits);
-            self.list.push(Case {
-                data: shifted.into_bytes(),
-                place: Place::behind(before),
-                args: vec![strict],
-                ..Case::of(Kind::ParseSeqHdr)
-            });
+            self.list.push(super::cut(self.rng, &whole, i % 3 == 0));
         }
     }
 }

@@ -13,7 +13,8 @@ mod readings;
 mod segments;
 mod within;
 
-use crate::case::{Case, Outcome};
+use crate::bits::BitWriter;
+use crate::case::{Case, Outcome, Place};
 use crate::kind::Kind;
 use crate::make::make;
 use crate::rng::Rng;
@@ -59,5 +60,30 @@ fn made(list: &mut Vec<Case>, rng: &mut Rng, kind: Kind, wanted: usize) {
         if near && outcome.rule.is_none_or(|rule| !rule.decides()) {
             list.push(case.clone());
         }
+    }
+}
+
+/// A case whose data ends a few bits before the last one that its reading uses, or anywhere before it.
+fn cut(rng: &mut Rng, whole: &Case, anywhere: bool) -> Case {
+    let mut outcome = Outcome::default();
+    expected(whole, &mut outcome);
+    let read = outcome.place.bits() as i64;
+    let kept = if anywhere {
+        rng.range(0, read)
+    } else {
+        read - rng.range(0, 4)
+    };
+    let kept = kept.max(0) as usize;
+    let mut bits = BitWriter::of(&whole.data);
+    bits.truncate(kept);
+    // The data ends with the last bit kept.
+    let before = (8 - kept % 8) % 8;
+    let mut shifted = BitWriter::default();
+    shifted.bits(rng.number(), before as u32);
+    shifted.append(&bits);
+    Case {
+        data: shifted.into_bytes(),
+        place: Place::behind(before),
+        ..whole.clone()
     }
 }
