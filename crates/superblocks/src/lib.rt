@@ -2,7 +2,7 @@
 // the one into the other, by the multiplier of the pair of codes, and `same_number` alone compares the two as they are. Every function has an
 // answer for every argument.
 ghost use mathlib.Core.Path.{_≡_};
-ghost use Prim.Native.Nat.{_+_, _-_, _*_, _/_, _%_, _^_, _≤_, min, max};
+ghost use Prim.Native.Nat.{_+_, _-_, _*_, _/_, _%_, _^_, _<_, _≤_, min, max};
 ghost use lib.Dec.{ltb, eqb};
 ghost use lib.ListN.{getD, set};
 ghost use Rattle.codes.specs.Codes.{getUniform};
@@ -12,6 +12,10 @@ ghost use Rattle.superblocks.specs.Counts.{multiplierOf, sizeOf, fitsUni
 use codes::get_uniform;
 use getbits::Place;
 use getbits::power;
+
+mod quotient;
+
+use quotient::quotient;
 
 // A count of the sequence's superblocks.
 pub struct SeqSb(u32);
@@ -83,6 +87,13 @@ fn umax(a: u32, b: u32) -> u32
     if a < b { b } else { a }
 }
 
+// n / 2 ^ log2, for a logarithm below 32.
+fn shifted(n: u32, log2: u8) -> u32
+    ensures { λ r. ⌜ r ≡ n / 2 ^ (log2 % 32) ⌝ }
+{
+    n >> (log2 % 32) as u32
+}
+
 // At most 2 ^ 32 - 1.
 fn cut(n: u64) -> u32
     ensures { λ r. ⌜ r ≡ min n 4294967295 ⌝ }
@@ -97,19 +108,27 @@ fn low_code(code: u8) -> u8
     if code < 2 { code } else { 2 }
 }
 
-// The size of a superblock in samples.
-fn sb_size(code: u8) -> u32
-    ensures { λ r. ⌜ (r ≡ sizeOf code) × (64 ≤ r) × (r ≤ 256) ⌝ }
+// The logarithm of a superblock's size in samples.
+fn sbsz_log2(code: u8) -> u32
+    ensures { λ r. ⌜ (2 ^ r ≡ sizeOf code) × (6 ≤ r) × (r ≤ 8) ⌝ }
 {
-    64 * power(low_code(code) as u32)
+    6 + low_code(code) as u32
+}
+
+// n samples in superblocks of a size, rounded down.
+fn whole_sbs(n: u64, code: u8) -> u32
+    requires { ⌜ n < 2 ^ 33 ⌝ }
+    ensures { λ r. ⌜ r ≡ n / sizeOf code ⌝ }
+{
+    (n >> sbsz_log2(code)) as u32
 }
 
 // n samples in superblocks of a size, rounded up.
 fn sb_count(n: u32, code: u8) -> u32
     ensures { λ r. ⌜ r ≡ superblocks n (min code 2) ⌝ }
 {
-    let sbsz = u32_to_u64(sb_size(code));
-    ((u32_to_u64(n) + (sbsz - 1)) / sbsz) as u32
+    let sbsz_min1 = power(sbsz_log2(code)) - 1;
+    whole_sbs(u32_to_u64(n) + u32_to_u64(sbsz_min1), code)
 }
 
 // The place of an entry of a layout: one above 64 counts as 64.
@@ -182,23 +201,22 @@ impl Pair {
     pub fn full_count(self, n: u32) -> SeqSb
         ensures { λ r. ⌜ r .0 ≡ max 1 ((n + 7) / sizeOf (self .«seq_code»)) ⌝ }
     {
-        let full = (u32_to_u64(n) + 7) / u32_to_u64(sb_size(self.seq_code));
-        SeqSb(umax(1, full as u32))
+        SeqSb(umax(1, whole_sbs(u32_to_u64(n) + 7, self.seq_code)))
     }
 
     // The frame's superblocks that n samples hold.
     pub fn width_limit(self, n: u32) -> FrameSb
         ensures { λ r. ⌜ r .0 ≡ n / sizeOf (self .«frame_code») ⌝ }
     {
-        FrameSb(n / sb_size(self.frame_code))
+        FrameSb(n >> sbsz_log2(self.frame_code))
     }
 
     // The frame's superblocks that an area of n samples holds.
     pub fn area_limit(self, n: u32) -> AreaSb
         ensures { λ r. ⌜ r .0 ≡ n / (sizeOf (self .«frame_code») * sizeOf (self .«frame_code»)) ⌝ }
     {
-        let sbsz = sb_size(self.frame_code);
-        AreaSb(n / (sbsz * sbsz))
+        let log2 = sbsz_log2(self.frame_code);
+        AreaSb(n >> log2 >> log2)
     }
 }
 
@@ -301,7 +319,7 @@ impl FrameSb {
     {
         let tiles = u32_to_u64(power(log2 as u32));
         let n = u32_to_u64(self.0);
-        let tile = (n + (tiles - 1)) / tiles;
+        let tile = (n + (tiles - 1)) >> (log2 % 32) as u32;
         tile * (tiles - 1) < n
     }
 }
@@ -321,7 +339,7 @@ impl AreaSb {
         if widest_tile.0 == 0 {
             return FrameSb(1);
         }
-        FrameSb(umax(1, self.0 / power(log2 as u32) / widest_tile.0))
+        FrameSb(umax(1, quotient(shifted(self.0, log2), widest_tile.0)))
     }
 }
 
@@ -397,7 +415,7 @@ pub fn even_split(fsb: SeqSb, ssb: SeqSb, log2: u8) -> Split
         × (r .extra .0 ≡ larger (fsb .0) (ssb .0) (log2 % 32)) ⌝ }
 {
     let max_tiles = power(log2 as u32);
-    let tile = SeqSb(fsb.0 / max_tiles);
+    let tile = SeqSb(shifted(fsb.0, log2));
     if tile.0 == 0 {
         return Split {
             tile,
@@ -407,7 +425,7 @@ pub fn even_split(fsb: SeqSb, ssb: SeqSb, log2: u8) -> Split
     }
     Split {
         tile,
-        extra: TileCount(fsb.0 % max_tiles),
+        extra: TileCount(fsb.0 & (max_tiles - 1)),
         tiles: TileCount(max_tiles),
     }
 }

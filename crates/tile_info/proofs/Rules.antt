@@ -12,20 +12,19 @@ use Rattle.tile_layout.specs.declared.TileInfo.{TileInfo}
 use Rattle.tile_layout.specs.Limits.{sbw, sbh}
 use Rattle.tile_layout.specs.Layout.{readSizes, over, readLog2, uniformCount, uniformEdges, uniformInfo, uniformLayout, rowLimit, invalidTileInfo, readCols, readRows, nonUniformInfo, nonUniformLayout}
 use Rattle.tile_info.specs.declared.uniform.Log2.{Log2}
-use Rattle.tile_info.specs.declared.uniform.Starts.{Starts}
 use Rattle.tile_info.specs.declared.limits.FrameLimits.{FrameLimits}
 use Rattle.tile_info.specs.declared.nonuniform.Tiles.{Tiles}
 use Rattle.tile_info.specs.Inner.{Known, TilesOf}
 
 module _ (s : List ℕ) (p : Place) (old : TileInfo) {a : TileArgs} {k : FrameLimits} (n : Known a k) where
-  pub uniform-made : (c r : Log2) (m : ℕ) (x y : Starts)
+  pub uniform-made : (c r : Log2) (m x y : ℕ) (xs ys : List ℕ)
       → c .log2 ≡ readLog2 s p (k .«min_log2_cols») (k .«max_log2_cols») .value
       → c .next ≡ readLog2 s p (k .«min_log2_cols») (k .«max_log2_cols») .next
       → m ≡ k .«min_log2_tiles» - c .log2
       → r .log2 ≡ readLog2 s (c .next) m (k .«max_log2_rows») .value
       → r .next ≡ readLog2 s (c .next) m (k .«max_log2_rows») .next
-      → x .tiles ≡ uniformCount a (a .width) (c .log2) → x .starts ≡ over (uniformEdges a (a .width) (c .log2)) (old .«col_start_sb»)
-      → y .tiles ≡ uniformCount a (a .height) (r .log2) → y .starts ≡ over (uniformEdges a (a .height) (r .log2)) (old .«row_start_sb»)
+      → x ≡ uniformCount a (a .width) (c .log2) → xs ≡ over (uniformEdges a (a .width) (c .log2)) (old .«col_start_sb»)
+      → y ≡ uniformCount a (a .height) (r .log2) → ys ≡ over (uniformEdges a (a .height) (r .log2)) (old .«row_start_sb»)
       → record {
         answer = Accepted;
         info =
@@ -34,39 +33,39 @@ module _ (s : List ℕ) (p : Place) (old : TileInfo) {a : TileArgs} {k : FrameLi
               «min_log2_cols» = k .«min_log2_cols»;
               «max_log2_cols» = k .«max_log2_cols»;
               «log2_cols» = c .log2;
-              cols = x .tiles;
+              cols = x;
               «min_log2_rows» = m;
               «max_log2_rows» = k .«max_log2_rows»;
               «log2_rows» = r .log2;
-              rows = y .tiles;
-              «col_start_sb» = x .starts;
-              «row_start_sb» = y .starts;
+              rows = y;
+              «col_start_sb» = xs;
+              «row_start_sb» = ys;
             };
         next = r .next;
       }
       ≡ uniformLayout s p old a
   unfolding uniformLayout uniformInfo then
-  uniform-made c r m x y cv cn em rv rn xt xs yt ys =
-      rw (xt, xs, yt, ys, rv, rn, em, cv, cn, n .min-cols, n .max-cols, n .max-rows, n .min-tiles) refl
+  uniform-made c r m x y xs ys cv cn em rv rn ex exs ey eys =
+      rw (ex, exs, ey, eys, rv, rn, em, cv, cn, n .min-cols, n .max-cols, n .max-rows, n .min-tiles) refl
 
   -- the columns that a program reads
-  abbrev pub ReadCols : Tiles → Type 0
-  ReadCols c = TilesOf (readSizes 64 s p (k .sbw .0) (k .«max_tile_width_sb» .0)) (k .sbw .0) (old .«col_start_sb») c
+  abbrev pub ReadCols : Tiles → List ℕ → Type 0
+  ReadCols c xs = TilesOf (readSizes 64 s p (k .sbw .0) (k .«max_tile_width_sb» .0)) (k .sbw .0) (old .«col_start_sb») c xs
 
-  cols : (c : Tiles) → ReadCols c → TilesOf (readCols s p a) (sbw a) (old .«col_start_sb») c
+  cols : {xs : List ℕ} (c : Tiles) → ReadCols c xs → TilesOf (readCols s p a) (sbw a) (old .«col_start_sb») c xs
   unfolding readCols
   cols c z = rw (n .across, n .wide) at z
 
-  pub cols-short : (c : Tiles) → ReadCols c → c .short ≡ true → invalidTileInfo old (c .next) ≡ nonUniformLayout s p old a
+  pub cols-short : {xs : List ℕ} (c : Tiles) → ReadCols c xs → c .short ≡ true → invalidTileInfo old (c .next) ≡ nonUniformLayout s p old a
   unfolding nonUniformLayout
   cols-short c z e =
       let w = cols c z in
       sym (through _ _ refl ∙ taken _ _ _ (sym (w .left) ∙ e) ∙ ap (invalidTileInfo old) (sym (w .stands)))
 
   -- the rows, behind columns that suffice
-  module _ (c r : Tiles) (h : ℕ) (z : ReadCols c) (e : c .short ≡ false) (eh : h ≡ rowLimit a (c .widest .0))
-      (y : TilesOf (readSizes 64 s (c .next) (k .sbh .0) h) (k .sbh .0) (old .«row_start_sb») r) where
-    rows : TilesOf (readRows s (readCols s p a) a) (sbh a) (old .«row_start_sb») r
+  module _ {xs ys : List ℕ} (c r : Tiles) (h : ℕ) (z : ReadCols c xs) (e : c .short ≡ false) (eh : h ≡ rowLimit a (c .widest .0))
+      (y : TilesOf (readSizes 64 s (c .next) (k .sbh .0) h) (k .sbh .0) (old .«row_start_sb») r ys) where
+    rows : TilesOf (readRows s (readCols s p a) a) (sbh a) (old .«row_start_sb») r ys
     unfolding readRows
     rows = rw (eh, cols c z .wides, cols c z .stands, n .down) at y
 
@@ -92,8 +91,8 @@ module _ (s : List ℕ) (p : Place) (old : TileInfo) {a : TileArgs} {k : FrameLi
                 «max_log2_rows» = k .«max_log2_rows»;
                 «log2_rows» = r .log2;
                 rows = r .tiles;
-                «col_start_sb» = c .starts;
-                «row_start_sb» = r .starts;
+                «col_start_sb» = xs;
+                «row_start_sb» = ys;
               };
           next = r .next;
         }

@@ -114,19 +114,19 @@ module _ (s : List ℕ) (total limit : ℕ) (start : Place) (old : List ℕ) whe
       })
 
   -- the loop is left: what was done is what is read
-  ended : (r : Sizes) (w : Walked (r .starts) (r .next) (r .sum .0) (r .tiles) (r .widest .0))
+  ended : {at : List ℕ} (r : Sizes) (w : Walked at (r .next) (r .sum .0) (r .tiles) (r .widest .0))
       → readSizes (64 - r .tiles) s (r .next) (total - r .sum .0) limit ≡ record { sizes = []; next = r .next }
-      → SizesOf (readSizes 64 s start total limit) old r
+      → SizesOf (readSizes 64 s start total limit) old r at
   ended r w e =
       rw (w .all ∙ ap (behind (w .done)) e ∙ ap (λ (t : List ℕ). record { sizes = t; next = r .next }) (append-nil (w .done)))
       (record { counted = w .tiles; summed = w .summed; wides = w .wides; stands = refl; stored = w .stored; few = w .few })
 
-  pub all-done : (r : Sizes) → Walked (r .starts) (r .next) (r .sum .0) (r .tiles) (r .widest .0) → total ≤ r .sum .0 → SizesOf (readSizes 64 s start total limit) old r
+  pub all-done : {at : List ℕ} (r : Sizes) → Walked at (r .next) (r .sum .0) (r .tiles) (r .widest .0) → total ≤ r .sum .0 → SizesOf (readSizes 64 s start total limit) old r at
   all-done r w h =
       let q : total - r .sum .0 ≡ 0 = omega arith in
       ended r w (rw q (nothing-left (64 - r .tiles) s (r .next) limit))
 
-  pub all-used : (r : Sizes) → Walked (r .starts) (r .next) (r .sum .0) (r .tiles) (r .widest .0) → 64 ≤ r .tiles → SizesOf (readSizes 64 s start total limit) old r
+  pub all-used : {at : List ℕ} (r : Sizes) → Walked at (r .next) (r .sum .0) (r .tiles) (r .widest .0) → 64 ≤ r .tiles → SizesOf (readSizes 64 s start total limit) old r at
   all-used r w h =
       let q : 64 - r .tiles ≡ 0 = omega arith in
       ended r w (rw q (no-more s (r .next) (total - r .sum .0) limit))

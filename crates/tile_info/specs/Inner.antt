@@ -29,20 +29,20 @@ pub record Known (a : TileArgs) (k : FrameLimits) : Type 0 where
   pub max-rows : k .«max_log2_rows» ≡ maxLog2Rows a
   pub min-tiles : k .«min_log2_tiles» ≡ minLog2Tiles a
 
--- the sizes z, with their starts over the old ones
-pub record SizesOf (z : layout.Sizes) (old : List ℕ) (r : Sizes) : Type 0 where
+-- the sizes z, with their starts over the old ones in `starts`
+pub record SizesOf (z : layout.Sizes) (old : List ℕ) (r : Sizes) (starts : List ℕ) : Type 0 where
   pub counted : r .tiles ≡ length (z .sizes)
   pub summed : r .sum .0 ≡ sum (z .sizes)
   pub wides : r .widest .0 ≡ widest (z .sizes)
   pub stands : r .next ≡ z .next
-  pub stored : r .starts ≡ over (startsFrom 0 (z .sizes)) old
+  pub stored : starts ≡ over (startsFrom 0 (z .sizes)) old
   pub few : r .tiles ≤ 64
 
 -- the sizes z, closed at `total`
-pub record TilesOf (z : layout.Sizes) (total : ℕ) (old : List ℕ) (r : Tiles) : Type 0 where
+pub record TilesOf (z : layout.Sizes) (total : ℕ) (old : List ℕ) (r : Tiles) (starts : List ℕ) : Type 0 where
   pub counted : r .tiles ≡ length (z .sizes)
   pub log : r .log2 ≡ tileLog2 1 (length (z .sizes))
   pub left : r .short ≡ ltb (sum (z .sizes)) total
   pub wides : r .widest .0 ≡ widest (z .sizes)
   pub stands : r .next ≡ z .next
-  pub stored : r .starts ≡ over (nonUniformEdges (z .sizes) total) old
+  pub stored : starts ≡ over (nonUniformEdges (z .sizes) total) old

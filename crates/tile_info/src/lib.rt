@@ -38,24 +38,22 @@ fn uniform_layout(s: &[u8], p: Place, thdr: TileInfo, a: TileArgs, k: FrameLimit
     let c = read_log2(s, p, k.min_log2_cols, k.max_log2_cols);
     let min_log2_rows = usub(k.min_log2_tiles, c.log2);
     let r = read_log2(s, c.next, min_log2_rows, k.max_log2_rows);
-    let old_cols = thdr.col_start_sb;
-    let old_rows = thdr.row_start_sb;
-    let cols = uniform_starts(old_cols, a, k.pair, a.width, k.sbw, c.log2);
-    let rows = uniform_starts(old_rows, a, k.pair, a.height, k.sbh, r.log2);
-    let col_start_sb = cols.starts;
-    let row_start_sb = rows.starts;
+    let mut col_starts = thdr.col_start_sb;
+    let mut row_starts = thdr.row_start_sb;
+    let cols = uniform_starts(&mut col_starts, a, k.pair, a.width, k.sbw, c.log2);
+    let rows = uniform_starts(&mut row_starts, a, k.pair, a.height, k.sbh, r.log2);
     let info = TileInfo {
         uniform: true,
         min_log2_cols: k.min_log2_cols,
         max_log2_cols: k.max_log2_cols,
         log2_cols: c.log2,
-        cols: cols.tiles,
+        cols,
         min_log2_rows,
         max_log2_rows: k.max_log2_rows,
         log2_rows: r.log2,
-        rows: rows.tiles,
-        col_start_sb,
-        row_start_sb,
+        rows,
+        col_start_sb: col_starts,
+        row_start_sb: row_starts,
     };
     let next = r.next;
     TileRead {
@@ -82,19 +80,17 @@ fn nonuniform_layout(s: &[u8], p: Place, thdr: TileInfo, a: TileArgs, k: FrameLi
     requires { ⌜ Known a k ⌝ }
     ensures { λ r. ⌜ r ≡ nonUniformLayout (now (s .entry)) p thdr a ⌝ }
 {
-    let old_cols = thdr.col_start_sb;
-    let cols = read_tiles(s, p, old_cols, k.sbw, k.max_tile_width_sb);
+    let mut col_start_sb = thdr.col_start_sb;
+    let cols = read_tiles(s, p, &mut col_start_sb, k.sbw, k.max_tile_width_sb);
     if cols.short {
         return invalid_tile_info(thdr, cols.next);
     }
-    let old_rows = thdr.row_start_sb;
+    let mut row_start_sb = thdr.row_start_sb;
     let max_height = max_tile_height_sb(a, k, cols.widest);
-    let rows = read_tiles(s, cols.next, old_rows, k.sbh, max_height);
+    let rows = read_tiles(s, cols.next, &mut row_start_sb, k.sbh, max_height);
     if rows.short {
         return invalid_tile_info(thdr, rows.next);
     }
-    let col_start_sb = cols.starts;
-    let row_start_sb = rows.starts;
     let info = TileInfo {
         uniform: false,
         min_log2_cols: k.min_log2_cols,

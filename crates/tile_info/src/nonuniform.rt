@@ -2,6 +2,7 @@
 ghost use mathlib.Core.Path.{_≡_};
 ghost use mathlib.Core.Bool.{true};
 ghost use Prim.Native.Nat.{_≤_};
+ghost use lib.ListN.{length};
 ghost use Rattle.tile_layout.specs.Limits.{inDomain};
 ghost use Rattle.tile_layout.specs.Layout.{readSizes, rowLimit};
 ghost use Rattle.tile_info.specs.Inner.{Known, SizesOf, TilesOf};
@@ -18,21 +19,19 @@ pub struct Sizes {
     pub sum: FrameSb,
     pub widest: FrameSb,
     pub next: Place,
-    pub starts: [u16; 65],
 }
 
 // Sizes are read until nothing of `total` remains or there are 64.
-fn read_sizes(s: &[u8], p: Place, starts: [u16; 65], total: FrameSb, limit: FrameSb) -> Sizes
-    requires { ⌜ (total .0 ≤ 1024) × (1 ≤ limit .0) ⌝ }
-    ensures { λ r. ⌜ SizesOf (readSizes 64 (now (s .entry)) p (total .0) (limit .0)) starts r ⌝ }
+fn read_sizes(s: &[u8], p: Place, starts: &mut [u16; 65], total: FrameSb, limit: FrameSb) -> Sizes
+    requires { ⌜ (length (now starts) ≡ 65) × (total .0 ≤ 1024) × (1 ≤ limit .0) ⌝ }
+    ensures { λ r. ⌜ SizesOf (readSizes 64 (now (s .entry)) p (total .0) (limit .0)) (now (starts .entry)) r (now (starts .exit)) ⌝ }
 {
-    let mut at = starts;
     let mut next = p;
     let mut sbx = FrameSb::none();
     let mut widest_tile = FrameSb::none();
     let mut tiles: u8 = 0;
     while sbx.below(total) && tiles < 64 {
-        put_start(&mut at, tiles, sbx);
+        put_start(starts, tiles, sbx);
         let z = read_size(s, next, total.minus(sbx), limit);
         next = z.next;
         widest_tile = widest_tile.most(z.size);
@@ -44,7 +43,6 @@ fn read_sizes(s: &[u8], p: Place, starts: [u16; 65], total: FrameSb, limit: Fram
         sum: sbx,
         widest: widest_tile,
         next,
-        starts: at,
     }
 }
 
@@ -54,18 +52,16 @@ pub struct Tiles {
     pub short: bool,
     pub widest: FrameSb,
     pub next: Place,
-    pub starts: [u16; 65],
 }
 
 // The columns or rows of a layout, with the closing entry; `short` says that they leave superblocks over.
-pub fn read_tiles(s: &[u8], p: Place, starts: [u16; 65], total: FrameSb, limit: FrameSb) -> Tiles
-    requires { ⌜ (total .0 ≤ 1024) × (1 ≤ limit .0) ⌝ }
-    ensures { λ r. ⌜ TilesOf (readSizes 64 (now (s .entry)) p (total .0) (limit .0)) (total .0) starts r ⌝ }
+pub fn read_tiles(s: &[u8], p: Place, starts: &mut [u16; 65], total: FrameSb, limit: FrameSb) -> Tiles
+    requires { ⌜ (length (now starts) ≡ 65) × (total .0 ≤ 1024) × (1 ≤ limit .0) ⌝ }
+    ensures { λ r. ⌜ TilesOf (readSizes 64 (now (s .entry)) p (total .0) (limit .0)) (total .0) (now (starts .entry)) r (now (starts .exit)) ⌝ }
 {
     let z = read_sizes(s, p, starts, total, limit);
-    let mut at = z.starts;
     let tiles = z.tiles;
-    put_start(&mut at, tiles, total);
+    put_start(starts, tiles, total);
     let log2 = tiles_log2(tiles);
     let short = z.sum.below(total);
     let widest = z.widest;
@@ -76,7 +72,6 @@ pub fn read_tiles(s: &[u8], p: Place, starts: [u16; 65], total: FrameSb, limit: 
         short,
         widest,
         next,
-        starts: at,
     }
 }
 

@@ -3,6 +3,7 @@ ghost use mathlib.Core.Path.{_≡_};
 ghost use mathlib.Core.Bool.{true};
 ghost use mathlib.Core.List.{[], _∷_, _++_};
 ghost use Prim.Native.Nat.{_+_, _*_, _≤_, min};
+ghost use lib.ListN.{length};
 ghost use Rattle.tile_layout.specs.Limits.{superblocks, inDomain};
 ghost use Rattle.tile_layout.specs.Layout.{tabulate, over, readLog2, uniformCount, uniformEdges};
 ghost use Rattle.superblocks.specs.Counts.{multiplierOf};
@@ -40,53 +41,43 @@ pub fn read_log2(s: &[u8], p: Place, least: u8, most: u8) -> Log2
     Log2 { log2, next }
 }
 
-pub struct Starts {
-    pub tiles: u8,
-    pub starts: [u16; 65],
-}
-
 // The starts of an even split, and the closing entry.
-fn fill(starts: [u16; 65], pair: Pair, split: Split, end: FrameSb) -> [u16; 65]
-    requires { ⌜ (split .tiles .0 ≤ 64) × (split .tile .0 * split .tiles .0 + split .extra .0 ≤ 1024) × (end .0 ≤ 1024) ⌝ }
+fn fill(starts: &mut [u16; 65], pair: Pair, split: Split, end: FrameSb)
+    requires { ⌜ (length (now starts) ≡ 65) × (split .tiles .0 ≤ 64) × (split .tile .0 * split .tiles .0 + split .extra .0 ≤ 1024) × (end .0 ≤ 1024) ⌝ }
     ensures { λ r.
         let multiplier = multiplierOf (pair .«frame_code») (pair .«seq_code») in
-        ⌜ r ≡ over (tabulate (λ i. multiplier * (split .tile .0 * i + min i (split .extra .0))) 0 (split .tiles .0) ++ (end .0 ∷ [])) starts ⌝ }
+        ⌜ now (starts .exit) ≡ over (tabulate (λ i. multiplier * (split .tile .0 * i + min i (split .extra .0))) 0 (split .tiles .0) ++ (end .0 ∷ [])) (now (starts .entry)) ⌝ }
 {
-    let mut at = starts;
     let mut sbx = SeqSb::none();
     let mut i: u8 = 0;
     while split.tiles.has(i) {
-        put_start(&mut at, i, sbx.in_frame(pair));
+        put_start(starts, i, sbx.in_frame(pair));
         sbx = sbx.plus(split.tile);
         if split.extra.has(i) {
             sbx = sbx.plus(SeqSb::one());
         }
         i += 1;
     }
-    put_start(&mut at, i, end);
-    at
+    put_start(starts, i, end);
 }
 
-// The columns or rows along n samples, which are `end` superblocks of the frame.
+// How many columns or rows there are along n samples, which are `end` superblocks of the frame. Their starts are stored.
 pub fn uniform_starts(
-    starts: [u16; 65],
+    starts: &mut [u16; 65],
     a: TileArgs,
     pair: Pair,
     n: u32,
     end: FrameSb,
     log2: u8,
-) -> Starts
+) -> u8
     requires { ⌜ inDomain a ≡ true ⌝ }
     requires { ⌜ Coded a pair ⌝ }
-    requires { ⌜ (1 ≤ n) × (n ≤ 65536) × (end .0 ≡ superblocks n (a .«frame_code»)) × (log2 ≤ 6) ⌝ }
-    ensures { λ r. ⌜ (r .tiles ≡ uniformCount a n log2) × (r .starts ≡ over (uniformEdges a n log2) starts) ⌝ }
+    requires { ⌜ (length (now starts) ≡ 65) × (1 ≤ n) × (n ≤ 65536) × (end .0 ≡ superblocks n (a .«frame_code»)) × (log2 ≤ 6) ⌝ }
+    ensures { λ r. ⌜ (r ≡ uniformCount a n log2) × (now (starts .exit) ≡ over (uniformEdges a n log2) (now (starts .entry))) ⌝ }
 {
     let fsb = pair.full_count(n);
     let ssb = pair.seq_count(n);
     let split = even_split(fsb, ssb, log2);
-    let at = fill(starts, pair, split, end);
-    Starts {
-        tiles: split.tiles.number(),
-        starts: at,
-    }
+    fill(starts, pair, split, end);
+    split.tiles.number()
 }

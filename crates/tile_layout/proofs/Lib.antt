@@ -6,3 +6,4 @@ pub mod Sized
 pub mod Cuts
 pub mod Area
 pub mod Demand3
+pub mod Lengths

@@ -17,7 +17,7 @@ struct Place {
 const FILL: Place = Place {
     krate: "tile_info",
     file: "uniform.rt",
-    behind: "put_start(&mut at, i, sbx.in_frame(pair));",
+    behind: "put_start(starts, i, sbx.in_frame(pair));",
 };
 
 /// Where a row of superblocks is split: `fsb` and `ssb` count the sequence's and `end` the frame's.
@@ -111,12 +111,12 @@ const LINES: &[(&Place, &str, &str)] = &[
     ),
     (
         &FILL,
-        "let mixed = sbx.plus(SeqSb(at[0] as u32));",
+        "let mixed = sbx.plus(SeqSb(starts[0] as u32));",
         "SeqSb is a struct with a field that is private here",
     ),
     (
         &SPLIT,
-        "let mixed = (n + 7) / sb_size(a.seq_code) + end.number();",
+        "let mixed = ((n + 7) >> sbsz_log2(a.seq_code)) + end.number();",
         "error[unknown-method]: no method named number found for type FrameSb",
     ),
     (

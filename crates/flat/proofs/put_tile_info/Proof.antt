@@ -3,18 +3,12 @@ use mathlib.Core.Bool.{true}
 use mathlib.Core.Path.{_≡_, sym, ap, subst, _∙_}
 use borrow.Author.Needs.{needs}
 use lib.Dec.{T}
-use lib.ListN.{length, length-map}
 use Rattle.getbits.proofs.Chain.{taken, left}
+use Rattle.tile_layout.proofs.Lengths.{cols-length, rows-length}
 use Rattle.flat.specs.Layout.{Buffers, buffers, hasRoom, putLayout, layoutIn}
 use Rattle.flat.proofs.Room.{Room, room, comes-back}
 use Rattle.flat.proofs.put_tile_info.Statement.{statement}
 use Rattle.flat.proofs.put_tile_info.Tie as tie
-
-cols-length : (s : tie.Start) → length (s .args .t .«col_start_sb») ≡ 65
-cols-length s = sym (length-map (s .args .t .«col_start_sb») (λ x. x)) ∙ s .good .0 .1 .1 .1 .1 .1 .1 .1 .1 .1 .1 .1 .0 .1 .0 .1
-
-rows-length : (s : tie.Start) → length (s .args .t .«row_start_sb») ≡ 65
-rows-length s = sym (length-map (s .args .t .«row_start_sb») (λ x. x)) ∙ s .good .0 .1 .1 .1 .1 .1 .1 .1 .1 .1 .1 .1 .1 .0 .1 .0 .1
 
 -- the buffers lent
 abbrev given : tie.Start → Buffers
@@ -32,12 +26,14 @@ put-layout-bytes-requires c κs = roomy (c .before .before .before) .bytes
 copy-starts-requires : tie.Need-copy-starts-requires
 copy-starts-requires c κs =
     let k = c .before .before .before .before .before .before .before .before in
-    (roomy k .cols, cols-length (k .before .before .before .before .before .before .before .before))
+    let s = k .before .before .before .before .before .before .before .before in
+    (roomy k .cols, cols-length (s .args .t) _ (s .good .0))
 
 copy-starts-requires-2 : tie.Need-copy-starts-requires-2
 copy-starts-requires-2 c κs =
     let k = c .before .before .before .before .before .before .before .before .before .before .before .before .before in
-    (roomy k .rows, rows-length (k .before .before .before .before .before .before .before .before))
+    let s = k .before .before .before .before .before .before .before .before in
+    (roomy k .rows, rows-length (s .args .t) _ (s .good .0))
 
 returns : tie.Need-returns
 unfolding putLayout
@@ -49,7 +45,7 @@ returns c =
     let s = k .before .before .before .before .before .before .before .before in
     let put : buffers (i .put-layout-bytes .last .1 .0) (q .copy-starts .last .0) (r .copy-starts2 .last .0) ≡ putLayout (s .args .t) (given s) =
     rw (i .put-layout-bytes .ensures, q .copy-starts .ensures, r .copy-starts2 .ensures) (sym (taken _ _ _ (has k))) in
-    (put, λ h. ap layoutIn put ∙ comes-back (s .args .t) (given s) (cols-length s) (rows-length s) h)
+    (put, λ h. ap layoutIn put ∙ comes-back (s .args .t) (given s) (cols-length (s .args .t) _ (s .good .0)) (rows-length (s .args .t) _ (s .good .0)) h)
 
 returns-2 : tie.Need-returns-2
 unfolding putLayout

@@ -11,17 +11,9 @@ returns c = rw (c .if1 .taken, div-zero)
 
 returns-2 : tie.Need-returns-2
 returns-2 c =
-    let k = c .before .before .before in
-    let a = k .before .before .before .args in
-    c .umax .ensures ∙ ap (λ (x : ℕ). max 1 (a .self .0 / x / a .widest-tile .0)) (k .power .ensures .0)
+    let q = c .before in
+    let z = q .before in
+    c .umax .ensures ∙ ap (max 1) (q .quotient .ensures ∙ ap (λ (x : ℕ). x / z .before .before .before .args .widest-tile .0) (z .shifted .ensures))
 
 pub max-height-spec : {M : Type 1} → statement M
-max-height-spec =
-    tie.close
-    (tie.spec
-    returns
-    (λ c κs. search needs)
-    (λ c. search needs)
-    (λ c. search needs)
-    (λ c κs. search needs)
-    returns-2)
+max-height-spec = tie.close (tie.spec returns (λ c κs. search needs) (λ c κs. search needs) (λ c κs. search needs) returns-2)

@@ -4,20 +4,16 @@ use mathlib.Core.Path.{_≡_, sym, _∙_}
 use Prim.Native.Nat.{_-_, _<_}
 use native.Mathlib.Omega.{arith}
 use borrow.Author.Tests.{ltb-true, ltb-false}
-use lib.ListN.{length}
 use Rattle.tile_info.proofs.Walk.{Walked, walk-start, walk-next, all-done, all-used}
 use borrow.Author.Needs.{needs}
 use Rattle.tile_info.proofs.nonuniform.read_sizes.Statement.{statement}
 use Rattle.tile_info.proofs.nonuniform.read_sizes.Tie as tie
 
 abbrev Inv-loop : tie.InvT-loop
-Inv-loop s total limit at₀ next₀ sbx₀ widest-tile₀ tiles₀ at next sbx widest-tile tiles = Walked s (total .0) (limit .0) next₀ at₀ at next (sbx .0) tiles (widest-tile .0)
+Inv-loop s starts₀ total limit next₀ sbx₀ widest-tile₀ tiles₀ starts next sbx widest-tile tiles = Walked s (total .0) (limit .0) next₀ starts₀ starts next (sbx .0) tiles (widest-tile .0)
 
 abbrev μ-loop : tie.MeasureT-loop
-μ-loop s total limit at₀ next₀ sbx₀ widest-tile₀ tiles₀ at next sbx widest-tile tiles = 64 - tiles
-
-given-length : (s : tie.Start Inv-loop μ-loop) → length (s .args .starts) ≡ 65
-given-length s = s .good .1 .1 .0 .1 .0 .1
+μ-loop s starts₀ total limit next₀ sbx₀ widest-tile₀ tiles₀ starts next sbx widest-tile tiles = 64 - tiles
 
 -- superblocks remain
 less : (c : tie.After-below Inv-loop μ-loop) → c .below .result ≡ true → c .before .loop .sbx .0 < c .before .before .before .before .before .args .total .0
@@ -42,7 +38,7 @@ loop-again c =
     let l = b .before .loop in
     let s = b .before .before .before .before .before in
     let n : l .tiles < 64 = omega (arith, ltb-true) in
-    walk-next _ _ _ _ _ (l .inv) (less b (t .if1 .taken)) n (omega (arith, given-length s)) (s .pre .0) (s .pre .1)
+    walk-next _ _ _ _ _ (l .inv) (less b (t .if1 .taken)) n (omega (arith, s .pre .0)) (s .pre .1) (s .pre .2)
     (m .minus .ensures) (r .read-size .ensures .0) (r .read-size .ensures .1) (p .put-start .ensures) (c .before .most .ensures) (c .plus .ensures)
 
 returns : tie.Need-returns Inv-loop μ-loop

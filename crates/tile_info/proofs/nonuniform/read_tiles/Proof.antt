@@ -2,7 +2,6 @@
 use mathlib.Core.Path.{_≡_, sym, _∙_, ap}
 use Prim.Native.Nat.{ℕ, _%_, min}
 use native.Mathlib.Omega.{arith}
-use lib.ListN.{length}
 use lib.Dec.{ltb}
 use Rattle.tile_layout.specs.Layout.{readSizes, startsFrom}
 use Rattle.tile_layout.proofs.Sized.{length-starts}
@@ -12,22 +11,19 @@ use borrow.Author.Needs.{needs}
 use Rattle.tile_info.proofs.nonuniform.read_tiles.Statement.{statement}
 use Rattle.tile_info.proofs.nonuniform.read_tiles.Tie as tie
 
-given-length : (s : tie.Start) → length (s .args .starts) ≡ 65
-given-length s = s .good .1 .1 .0 .1 .0 .1
-
 returns : tie.Need-returns
 returns c =
     let below = c .before .before in
     let log = below .before in
     let put = log .before in
-    let read = put .before .before .before in
-    let s = read .before .before in
+    let read = put .before .before in
+    let s = read .before .before .before in
     let a = s .args in
     let z = read .read-sizes .ensures in
     let n = read .read-sizes .result .tiles in
     let sizes = readSizes 64 (a .s .now) (a .p) (a .total .0) (a .limit .0) .sizes in
     let i : min n 64 ≡ n = omega (arith, z .few) in
-    let v : a .total .0 % 65536 ≡ a .total .0 = omega (arith, s .pre .0) in
+    let v : a .total .0 % 65536 ≡ a .total .0 = omega (arith, s .pre .1) in
     record {
       counted = z .counted;
       log = log .tiles-log2 .ensures ∙ ap (tileLog2 1) (z .counted);
@@ -36,7 +32,7 @@ returns c =
       stands = z .stands;
       stored =
           put .put-start .ensures
-          ∙ rw (i, v, z .stored) (grow (startsFrom 0 sizes) (a .starts) n (a .total .0) (length-starts sizes 0 ∙ sym (z .counted)) (omega (arith, z .few, given-length s)));
+          ∙ rw (i, v, z .stored) (grow (startsFrom 0 sizes) (a .starts .now) n (a .total .0) (length-starts sizes 0 ∙ sym (z .counted)) (omega (arith, z .few, s .pre .0)));
     }
 
 pub read-tiles-spec : {M : Type 1} → statement M

@@ -5,7 +5,6 @@ use Prim.Native.Nat.{ℕ, _+_, _-_, _*_, _%_, min, _≤_, _<_}
 use native.Mathlib.Nat.{mul-le-mul, mul-le-mul-left, mul-suc, mul-zero}
 use native.Mathlib.Omega.{arith}
 use borrow.Author.Tests.{ltb-true, ltb-false}
-use lib.ListN.{length}
 use Rattle.tile_layout.proofs.Laws.{times-next, stored, closed}
 use Rattle.tile_layout.specs.Layout.{tabulate, over}
 use Rattle.superblocks.specs.declared.SeqSb.{SeqSb}
@@ -16,16 +15,13 @@ use Rattle.tile_info.proofs.uniform.fill.Statement.{statement}
 use Rattle.tile_info.proofs.uniform.fill.Tie as tie
 
 abbrev Inv-loop : tie.InvT-loop
-Inv-loop pair split end at₀ sbx₀ i₀ at sbx i =
+Inv-loop starts₀ pair split end sbx₀ i₀ starts sbx i =
     (sbx .0 ≡ split .tile .0 * i + min i (split .extra .0))
     × (i ≤ split .tiles .0)
-    × (at ≡ over (tabulate (λ i. multiplierOf (pair .«frame_code») (pair .«seq_code») * (split .tile .0 * i + min i (split .extra .0))) 0 i) at₀)
+    × (starts ≡ over (tabulate (λ i. multiplierOf (pair .«frame_code») (pair .«seq_code») * (split .tile .0 * i + min i (split .extra .0))) 0 i) starts₀)
 
 abbrev μ-loop : tie.MeasureT-loop
-μ-loop pair split end at₀ sbx₀ i₀ at sbx i = split .tiles .0 - i
-
-given-length : (s : tie.Start Inv-loop μ-loop) → length (s .args .starts) ≡ 65
-given-length s = s .good .0 .1 .0 .1
+μ-loop starts₀ pair split end sbx₀ i₀ starts sbx i = split .tiles .0 - i
 
 -- a tile follows
 more : (c : tie.Then1 Inv-loop μ-loop) → c .before .before .loop .i < c .before .before .before .before .args .split .tiles .0
@@ -36,7 +32,7 @@ ends : (c : tie.Then1 Inv-loop μ-loop) → let t = c .before .before .before .b
 ends c =
     let z = c .before .before .before .before .args .split in
     let i = c .before .before .loop .i in
-    omega (arith, mul-le-mul-left (z .tile .0) (more c), mul-suc (z .tile .0) i, c .before .before .before .before .pre .1, c .before .before .loop .inv .0)
+    omega (arith, mul-le-mul-left (z .tile .0) (more c), mul-suc (z .tile .0) i, c .before .before .before .before .pre .2, c .before .before .loop .inv .0)
 
 -- a start in the frame's superblocks, as it is stored
 fits : (m x : ℕ) → m ≤ 2 → x ≤ 1024 → m * x % 4294967296 % 65536 ≡ m * x
@@ -47,7 +43,7 @@ unfolding tabulate
 loop-holds c = (omega (arith, c .none .ensures, mul-zero (c .before .args .split .tile .0)), omega arith, refl)
 
 add-i : tie.Need-add-i Inv-loop μ-loop
-add-i c = let t = c .before .before .before .before .before .before in omega (arith, more t, t .before .before .before .before .pre .0)
+add-i c = let t = c .before .before .before .before .before .before in omega (arith, more t, t .before .before .before .before .pre .1)
 
 loop-less : tie.Need-loop-less Inv-loop μ-loop
 loop-less c = omega (arith, more (c .before .before .before .before .before .before))
@@ -62,7 +58,7 @@ loop-again c =
     let s = t .before .before .before .before in
     let b = s .args .split .tile .0 in
     let m = multiplierOf (s .args .pair .«frame_code») (s .args .pair .«seq_code») in
-    let e : min (l .i) 64 ≡ l .i = omega (arith, more t, s .pre .0) in
+    let e : min (l .i) 64 ≡ l .i = omega (arith, more t, s .pre .1) in
     let x : l .sbx .0 ≤ 1024 = omega (arith, ends t) in
     let v : in-frame .in-frame .result .0 % 65536 ≡ m * l .sbx .0 = rw (in-frame .in-frame .ensures) (fits m (l .sbx .0) (low-multiplier _ _) x) in (
       ⊎-elim
@@ -71,7 +67,7 @@ loop-again c =
           (c .if2 .came),
       omega (arith, more t),
       put .put-start .ensures
-          ∙ rw (e, v, l .inv .2) (stored _ (s .args .starts) (l .i) (m * l .sbx .0) (ap (_*_ m) (l .inv .0)) (omega (arith, more t, s .pre .0, given-length s))),
+          ∙ rw (e, v, l .inv .2) (stored _ (s .args .starts .now) (l .i) (m * l .sbx .0) (ap (_*_ m) (l .inv .0)) (omega (arith, more t, s .pre .1, s .pre .0))),
     )
 
 returns : tie.Need-returns Inv-loop μ-loop
@@ -80,10 +76,10 @@ returns c =
     let l = e .before .before .loop in
     let s = e .before .before .before .before in
     let q : l .i ≡ s .args .split .tiles .0 = omega (arith, l .inv .1, ltb-false (l .i) (s .args .split .tiles .0) (sym (e .before .has .ensures) ∙ e .if1 .left)) in
-    let i : min (l .i) 64 ≡ l .i = omega (arith, s .pre .0) in
-    let v : s .args .end .0 % 65536 ≡ s .args .end .0 = omega (arith, s .pre .2) in
+    let i : min (l .i) 64 ≡ l .i = omega (arith, s .pre .1) in
+    let v : s .args .end .0 % 65536 ≡ s .args .end .0 = omega (arith, s .pre .3) in
     c .put-start2 .ensures
-    ∙ rw (i, v, l .inv .2, ← q) (closed _ (s .args .starts) (l .i) (s .args .end .0) (omega (arith, s .pre .0, given-length s)))
+    ∙ rw (i, v, l .inv .2, ← q) (closed _ (s .args .starts .now) (l .i) (s .args .end .0) (omega (arith, s .pre .1, s .pre .0)))
 
 pub fill-spec : {M : Type 1} → statement M
 fill-spec =
