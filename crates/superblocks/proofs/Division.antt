@@ -1,16 +1,16 @@
 -- A quotient settled bit by bit, the highest first. Assumes nothing.
-use mathlib.Core.Path.{_≡_, sym, _∙_, ap}
+use mathlib.Core.Path.{_≡_, refl, sym, _∙_, ap}
 use Prim.Native.Nat.{ℕ, zero, suc, _+_, _-_, _*_, _/_, _^_, _≤_, _<_, max}
-use native.Mathlib.Nat.{mul-add, mul-zero, mul-one, mul-comm, pow-suc, mul-le-mul-left, le-div-iff-mul-le, div-lt-iff-lt-mul, div-eq-of-lt-le}
+use native.Mathlib.Nat.{mul-add, mul-zero, mul-one, mul-comm, pow-suc, mul-le-mul-left, mul-div-le, le-div-iff-mul-le, div-lt-iff-lt-mul, div-eq-of-lt-le}
 use native.Mathlib.Omega.{arith}
 use lib.Pow.{pow-pos, pow-mono, ones-split, ones-lt, high}
 
--- k bits hold n / d, or don't
-pub held : (n d k : ℕ) → n / 2 ^ k < d → n < d * 2 ^ k
-held n d k h = div-lt-iff-lt-mul (pow-pos k) .0 h
+-- k bits hold n / d, or don't, by the other quotient
+pub held : (n d k : ℕ) → 1 ≤ d → n / 2 ^ k < d → n / d < 2 ^ k
+held n d k s h = div-lt-iff-lt-mul s .1 (rw (mul-comm (2 ^ k) d) (div-lt-iff-lt-mul (pow-pos k) .0 h))
 
-pub not-held : (n d k : ℕ) → d ≤ n / 2 ^ k → d * 2 ^ k ≤ n
-not-held n d k h = le-div-iff-mul-le (pow-pos k) .0 h
+pub not-held : (n d k : ℕ) → 1 ≤ d → d ≤ n / 2 ^ k → 2 ^ k ≤ n / d
+not-held n d k s h = le-div-iff-mul-le s .1 (rw (mul-comm (2 ^ k) d) (le-div-iff-mul-le (pow-pos k) .0 h))
 
 -- a power is twice the one before
 double : (k : ℕ) → 0 < k → 2 ^ k ≡ 2 ^ (k - 1) + 2 ^ (k - 1)
@@ -26,21 +26,29 @@ ones k h =
     ∙ ap (λ (x : ℕ). x / 2 ^ (32 - k)) (ones-split k (32 - k))
     ∙ high (2 ^ k - 1) (32 - k) (ones-lt (32 - k))
 
--- the parts of at most the highest bit fit 32 bits
-pub part-fits : (n d k most : ℕ) → n < 2 ^ 32 → d < 2 ^ 32 → k ≤ most → d * 2 ^ most ≤ max n d → d * 2 ^ k < 2 ^ 32
-part-fits n d k most hn hd h e = omega (arith, mul-le-mul-left d (pow-mono h))
+-- the divisor's part for a bit of the quotient fits 32 bits
+pub part-fits : (n d k most : ℕ) → n < 2 ^ 32 → d < 2 ^ 32 → k ≤ most → 2 ^ most ≤ max 1 (n / d) → d * 2 ^ k < 2 ^ 32
+part-fits n d k most hn hd h e = by (n / d) refl
+  where
+    by : (q : ℕ) → n / d ≡ q → d * 2 ^ k < 2 ^ 32
+    by zero z = omega (arith, mul-le-mul-left {m = 2 ^ k} {n = 1} d (omega (arith, pow-mono h, z)), mul-one d)
+    by (suc q) z = omega (arith, mul-le-mul-left {m = 2 ^ k} {n = n / d} d (omega (arith, pow-mono h, z)), mul-div-le n d)
 
--- the bits of q from k on are those of n / d, the ones below are set, and `left` is what these leave of n
+-- the bits of q from k on are those of n / d, those below are set, and `left` is what the settled ones leave of n
 pub record Settled (n d k q left : ℕ) : Type 0 where
   pub set : 2 ^ k ≤ q + 1
   pub taken : d * (q + 1 - 2 ^ k) + left ≡ n
   pub rest : left < d * 2 ^ k
 
 -- at the start none is settled
-pub start : (n d k : ℕ) → n < d * 2 ^ k → Settled n d k (2 ^ k - 1) n
-start n d k h =
+pub start : (n d k : ℕ) → 1 ≤ d → n / d < 2 ^ k → Settled n d k (2 ^ k - 1) n
+start n d k s h =
     let none : 2 ^ k - 1 + 1 - 2 ^ k ≡ 0 = omega (arith, pow-pos k) in
-    record { set = omega (arith, pow-pos k); taken = rw none (omega (arith, mul-zero d)); rest = h; }
+    record {
+      set = omega (arith, pow-pos k);
+      taken = rw none (omega (arith, mul-zero d));
+      rest = rw (mul-comm d (2 ^ k)) (div-lt-iff-lt-mul s .0 h);
+    }
 
 -- a bit more is settled: it stays set
 pub keep : (n d k q left : ℕ) → 0 < k → Settled n d k q left → d * 2 ^ (k - 1) ≤ left → Settled n d (k - 1) q (left - d * 2 ^ (k - 1))

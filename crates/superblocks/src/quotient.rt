@@ -4,8 +4,8 @@ ghost use Prim.Native.Nat.{_-_, _*_, _/_, _^_, _≤_, _<_, max};
 
 // k, or k - j where that many bits hold n / d.
 fn narrow(n: u32, d: u32, k: u32, j: u32) -> u32
-    requires { ⌜ (1 ≤ j) × (j * 2 ≤ k) × (k ≤ 32) × (n < d * 2 ^ k) × (d * 2 ^ (k - j * 2) ≤ max n d) ⌝ }
-    ensures { λ r. ⌜ (j ≤ r) × (r ≤ 32) × (n < d * 2 ^ r) × (d * 2 ^ (r - j) ≤ max n d) ⌝ }
+    requires { ⌜ (1 ≤ d) × (1 ≤ j) × (j * 2 ≤ k) × (k ≤ 32) × (n / d < 2 ^ k) × (2 ^ (k - j * 2) ≤ max 1 (n / d)) ⌝ }
+    ensures { λ r. ⌜ (j ≤ r) × (r ≤ 32) × (n / d < 2 ^ r) × (2 ^ (r - j) ≤ max 1 (n / d)) ⌝ }
 {
     if n >> (k - j) < d { k - j } else { k }
 }
@@ -13,7 +13,7 @@ fn narrow(n: u32, d: u32, k: u32, j: u32) -> u32
 // How many bits n / d has; 0 has one. Five halvings of the 32 that it may have, and no loop.
 fn quotient_bits(n: u32, d: u32) -> u32
     requires { ⌜ 1 ≤ d ⌝ }
-    ensures { λ r. ⌜ (1 ≤ r) × (r ≤ 32) × (n < d * 2 ^ r) × (d * 2 ^ (r - 1) ≤ max n d) ⌝ }
+    ensures { λ r. ⌜ (1 ≤ r) × (r ≤ 32) × (n / d < 2 ^ r) × (2 ^ (r - 1) ≤ max 1 (n / d)) ⌝ }
 {
     let within_16 = narrow(n, d, 32, 16);
     let within_8 = narrow(n, d, within_16, 8);

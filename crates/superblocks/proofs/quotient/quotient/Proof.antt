@@ -29,7 +29,7 @@ loop-holds : tie.Need-loop-holds Inv-loop μ-loop
 loop-holds c =
     let a = c .before .args in
     let e = c .quotient-bits .ensures in
-    (omega arith, rw (ones (c .quotient-bits .result) (e .1)) (start (a .n) (a .d) (c .quotient-bits .result) (e .2)))
+    (omega arith, rw (ones (c .quotient-bits .result) (e .1)) (start (a .n) (a .d) (c .quotient-bits .result) (c .before .pre) (e .2)))
 
 shl-part : tie.Need-shl-part Inv-loop μ-loop
 shl-part c = low c
