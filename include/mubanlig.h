@@ -310,8 +310,9 @@ uint32_t mubanlig_parse_tile_info_frmhdr(const uint8_t *s, size_t s_len, size_t 
     const uint8_t *seq_info, size_t seq_info_len,
     const uint16_t *seq_col_start_sb, size_t seq_col_start_sb_len, const uint16_t *seq_row_start_sb, size_t seq_row_start_sb_len);
 /*
- * Left, top, width and height of each tile in samples, in an order that is left open; numbers behind the last tile stay. sb128 is the
- * code that the starts are counted in. Answers 0, 4 or 5.
+ * Left, top, width and height of each tile in samples: the top row first, and left to right within a row, so that the numbers of the
+ * tile in a column and a row, both counted from 0, begin at out[4 * (row * columns + column)]. Numbers behind the last tile stay. sb128
+ * is the code that the starts are counted in. Answers 0, 4 or 5.
  */
 uint32_t mubanlig_tile_rectangles(const uint8_t *info, size_t info_len,
     const uint16_t *col_start_sb, size_t col_start_sb_len, const uint16_t *row_start_sb, size_t row_start_sb_len,

@@ -1,10 +1,14 @@
-//! The Rust's own callers of the reader, with their text unchanged but for the import of the reader: ours. And the rule of
-//! a limit, which may be a wrong version.
+//! The Rust's own callers of the reader, with their text unchanged but for the import of the reader: ours. And the rules of
+//! a limit and of rectangles, which may be wrong versions.
 
 include!("../oracle/items.rs");
 
-/// The rule of a limit: the copy that stands beside the Rust's files if there is one, else ours.
-const RULE: &str = "within.rs";
+/// The rules, and the variable that names each one's file: the copy that stands beside the Rust's files if there is one,
+/// else ours.
+const RULES: [(&str, &str); 2] = [
+    ("within.rs", "WITHIN_RULE"),
+    ("rectangles.rs", "RECTANGLES_RULE"),
+];
 
 /// The functions behind the items that call each of them.
 const CALLERS: &str = "../oracle/src/glue/callers.rs";
@@ -14,13 +18,15 @@ fn main() {
     println!("cargo::rerun-if-changed={CALLERS}");
     let src = source_folder();
     let here = PathBuf::from(env::var("CARGO_MANIFEST_DIR").unwrap());
-    let rule = if src.join(RULE).is_file() {
-        src.join(RULE)
-    } else {
-        here.join("src").join(RULE)
-    };
-    println!("cargo::rerun-if-changed={}", rule.display());
-    println!("cargo::rustc-env=WITHIN_RULE={}", rule.display());
+    for (file, variable) in RULES {
+        let rule = if src.join(file).is_file() {
+            src.join(file)
+        } else {
+            here.join("src").join(file)
+        };
+        println!("cargo::rerun-if-changed={}", rule.display());
+        println!("cargo::rustc-env={variable}={}", rule.display());
+    }
     if env::var_os("CARGO_FEATURE_OURS").is_none() {
         return;
     }

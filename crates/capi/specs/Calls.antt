@@ -5,12 +5,12 @@ use mathlib.Core.List.{List}
 use lib.Dec.{leb}
 use lib.IntN.{ℤ}
 use lib.ListN.{length}
-use Rattle.answers.specs.declared.Answer.{Answer}
+use Rattle.answers.specs.Numbers.{numberOf}
 use Rattle.answers.specs.declared.Answer.the-variants.{Accepted, ShortBuffer}
 use Rattle.getbits.specs.Chain.{pick, then}
 use Rattle.lent.specs.Lent.{isSet, placeOf}
 use Rattle.seg_info.specs.Seg.{parseSegInfo}
-use Rattle.rectangles.specs.Rectangles.{rectanglesAnswer}
+use Rattle.rectangles.specs.Rectangles.{tileRectangles}
 use Rattle.seq_hdr.specs.Header.{parseSeqHdr}
 use Rattle.flat_hdr.specs.Header.{flatSeqHdr}
 use Rattle.flat.specs.Layout.{Buffers, overFront, hasRoom, putLayout, layoutIn}
@@ -33,6 +33,10 @@ lentHeader s position error strict hdr b =
     (answered (r .answer) (r .next) error, overFront 146 (flatSeqHdr (r .hdr)) hdr, putLayout (r .hdr .tiling .t) b))
     (tooShort position error, hdr, b)
 
--- the answer of tile_rectangles over the buffers of a layout
-abbrev pub lentRectangles : Buffers → ℕ → ℕ → Answer
-lentRectangles b code room = pick (hasRoom b) (rectanglesAnswer (layoutIn b) code room) ShortBuffer
+-- tile_rectangles over the buffers of a layout
+unfoldable pub lentRectangles : Buffers → ℕ → List ℕ → ℕ × List ℕ
+lentRectangles b code out =
+    pick (hasRoom b)
+    (then (tileRectangles (layoutIn b) code out) λ r.
+    (numberOf (r .0), r .1))
+    (numberOf ShortBuffer, out)

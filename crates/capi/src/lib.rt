@@ -4,12 +4,10 @@ ghost use mathlib.Core.List.{[], _∷_, _++_};
 ghost use mathlib.Core.Path.{_≡_};
 ghost use Prim.Native.Nat.{_≤_};
 ghost use lib.IntN.{pos};
-ghost use lib.ListN.{length, replicate, drop};
-ghost use Rattle.answers.specs.Numbers.{numberOf};
-ghost use Rattle.flat.specs.Layout.{buffers, hasRoom, layoutIn};
+ghost use lib.ListN.{replicate, drop};
+ghost use Rattle.flat.specs.Layout.{buffers, hasRoom};
 ghost use Rattle.frame_hdr.specs.Frame.{FreshDemand3};
 ghost use Rattle.lent.specs.Lent.{placeOf};
-ghost use Rattle.rectangles.specs.Rectangles.{Outcome};
 ghost use Rattle.tile_layout.specs.Demand3.{Demand3};
 ghost use Rattle.tile_layout.specs.Limits.{argsOf, inDomain};
 ghost use Rattle.lent_tiles.specs.Calls.{lentTileInfo, isKnown, frameGiven, seqGiven, lentFrame};
@@ -273,10 +271,7 @@ pub extern "C" fn mubanlig_tile_rectangles(
 ) -> u32
     ensures { λ r.
         let before = buffers (now (info .entry)) (now («col_start_sb» .entry)) (now («row_start_sb» .entry)) in
-        ⌜ r ≡ numberOf (lentRectangles before sb128 (length (now (out .entry)))) ⌝ }
-    ensures { λ _.
-        let before = buffers (now (info .entry)) (now («col_start_sb» .entry)) (now («row_start_sb» .entry)) in
-        ⌜ Outcome (layoutIn before) sb128 (lentRectangles before sb128 (length (now (out .entry)))) (now (out .entry)) (now (out .exit)) ⌝ }
+        ⌜ (r, now (out .exit)) ≡ lentRectangles before sb128 (now (out .entry)) ⌝ }
     ensures { λ r. ⌜ ((r ≡ 0 → ⊥) → now (out .exit) ≡ now (out .entry)) ⌝ }
 {
     if !has_room(info, col_start_sb, row_start_sb) {

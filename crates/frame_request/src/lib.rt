@@ -1,4 +1,4 @@
-// What the programs frame and panel share: a sequence header, a frame and tiling bits in bytes, and the text of a frame's layout.
+// What the programs frame, panel and rects share: a sequence header, a frame and tiling bits in bytes, and the text of a frame's layout.
 ghost use mathlib.Core.Path.{_≡_};
 ghost use Prim.Native.Nat.{_≤_};
 ghost use Rattle.program.specs.Output.{startsText};

@@ -3,3 +3,4 @@ pub mod Fields
 pub mod Places
 pub mod Callers
 pub mod Widths
+pub mod Stores

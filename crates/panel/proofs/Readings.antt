@@ -10,11 +10,11 @@ use Rattle.tile_layout.specs.Layout.{tabulate, fullCount, base, count, larger, 
 use Rattle.tile_layout.specs.Layout.{rowArea, rowLimit, readCols, readRows, nonUniformInfo, nonUniformLayout, parseTileInfo}
 use Rattle.superblocks.specs.Counts.{multiplierOf}
 use Rattle.text.specs.Text.{word, decimal, decimalIn, nexts, row}
-use Rattle.program.specs.Output.{acceptedText, refusedText}
+use Rattle.program.specs.Output.{acceptedText, refusedText, chosenText, eitherText}
 use Rattle.tile_limit.specs.Within.{tilesWithin}
 use Rattle.tile_request.specs.Request.{tileRequest}
 use Rattle.tile_request.specs.Print.{tileHeadText, tileLayoutText, tileReadText}
-use Rattle.panel.specs.Print.{panelRestText, panelText}
+use Rattle.panel.specs.Print.{panelText}
 
 -- without data each column and each row gets one superblock: 1024 by 512, 1088 by 64, 64 by 576, 4096 by 64 and 4160 by 64.
 -- The panel shows 16 columns and 8 rows, and a layout has 64 of each at most
@@ -29,13 +29,13 @@ unfolding leadingZeros then turns bitsAt position readBits getBit getBits getFla
     tabulate fullCount base count larger startAt readLog2 uniformInfo uniformLayout readSizes sum widest startsFrom
     rowArea rowLimit readCols readRows nonUniformInfo nonUniformLayout parseTileInfo multiplierOf tilesWithin
     word decimal decimalIn nexts row tileRequest tileHeadText tileLayoutText acceptedText refusedText tileReadText
-    panelRestText panelText
+    chosenText eitherText panelText
 sizes = (refl, refl, refl, refl, refl)
 
 nothing : panelText [] ≡ word "no 4\n"
-unfolding word decimal decimalIn nexts refusedText panelText
+unfolding word decimal decimalIn nexts refusedText eitherText panelText
 nothing = refl
 
 another : panelText (2 ∷ []) ≡ word "no 4\n"
-unfolding word decimal decimalIn nexts refusedText panelRestText panelText
+unfolding word decimal decimalIn nexts refusedText chosenText eitherText panelText
 another = refl

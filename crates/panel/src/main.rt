@@ -3,7 +3,10 @@ ghost use mathlib.Core.Path.{_≡_};
 ghost use lib.ListN.{take};
 ghost use Rattle.io.specs.Counts.{Counts};
 ghost use Rattle.text.specs.Text.{Put};
-ghost use Rattle.panel.specs.Print.{panelTiles, panelFrame, panelRestText, panelText};
+ghost use Rattle.frame_request.specs.Print.{frameReadText};
+ghost use Rattle.program.specs.Output.{chosenText};
+ghost use Rattle.tile_request.specs.Print.{tileReadText};
+ghost use Rattle.panel.specs.Print.{panelTiles, panelFrame, panelText};
 use frame_hdr::FrameRead;
 use frame_request::frame_request;
 use frame_request::given_frame;
@@ -34,7 +37,7 @@ fn panel_frame(s: &[u8]) -> FrameRead
 
 // What is printed of the bytes s behind the first byte.
 fn put_rest(out: &mut [u8], first: u8, s: &[u8]) -> usize
-    ensures { λ r. ⌜ Put 10843 (now (out .entry)) 0 (panelRestText first (now (s .entry))) (now (out .exit)) r ⌝ }
+    ensures { λ r. ⌜ Put 10843 (now (out .entry)) 0 (chosenText first (tileReadText (panelTiles (now (s .entry)))) (frameReadText (panelFrame (now (s .entry))))) (now (out .exit)) r ⌝ }
 {
     if first == 0 {
         return put_tile_read(out, panel_tiles(s));

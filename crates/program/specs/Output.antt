@@ -1,13 +1,14 @@
--- What the programs print alike: the first line of a layout, a line of starts, the line of a refusal, and a reader's place.
+-- What the programs print alike: the first line of a layout, a line of starts, the line of a refusal, a reader's place, and which program's text.
 use mathlib.Core.Bool.{Bool}
 use mathlib.Core.List.{List, [], _∷_, _++_}
 use Prim.Native.Nat.{ℕ}
 use lib.Dec.{eqb}
-use lib.ListN.{take}
+use lib.ListN.{length, take, drop}
 use Rattle.getbits.specs.Chain.{pick}
 use Rattle.getbits.specs.declared.Place.{Place}
 use Rattle.lent.specs.Lent.{positionOf}
 use Rattle.text.specs.Text.{word, nexts, row, line}
+use Rattle.program.specs.Input.{byteAt}
 
 -- accepted: ok, U or N, and numbers
 unfoldable pub acceptedText : Bool → List ℕ → List ℕ
@@ -32,3 +33,11 @@ okText next = line (word "ok" ++ nexts (placeNumbers next))
 -- a refused one: no, the number, bits used, reader error; no 4 alone
 unfoldable pub refusalText : ℕ → Place → List ℕ
 refusalText n next = pick (eqb n 4) (refusedText n) (line (word "no" ++ nexts (n ∷ placeNumbers next)))
+
+-- a byte says which of two programs is meant, and what is printed is that program's text: 0 is tile, 1 is frame; another is 4
+unfoldable pub chosenText : ℕ → List ℕ → List ℕ → List ℕ
+chosenText first tile frame = pick (eqb first 0) tile (pick (eqb first 1) frame (refusedText 4))
+
+-- the first byte of an input says it, and the rest is that program's input; without a first byte it is 4
+unfoldable pub eitherText : (List ℕ → List ℕ) → (List ℕ → List ℕ) → List ℕ → List ℕ
+eitherText tile frame s = pick (eqb (length s) 0) (refusedText 4) (chosenText (byteAt s 0) (tile (drop 1 s)) (frame (drop 1 s)))

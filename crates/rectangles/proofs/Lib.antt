@@ -1,3 +1,4 @@
 pub mod Rising
-pub mod Fronts
-pub mod Order
+pub mod Each
+pub mod Places
+pub mod Outcome

@@ -3,8 +3,8 @@ use mathlib.Core.Path.{_≡_}
 use mathlib.Core.Bool.{Bool, true, _&&_}
 use mathlib.Core.List.{List}
 use mathlib.Core.Logic.{⊎-elim}
-use Prim.Native.Nat.{ℕ, zero, suc, _+_, _*_, _/_, _^_, _≤_, _<_}
-use native.Mathlib.Nat.{mul-le-mul, mul-comm, div-lt-iff-lt-mul}
+use Prim.Native.Nat.{ℕ, zero, suc, _+_, _*_, _^_, _≤_, _<_}
+use native.Mathlib.Nat.{mul-le-mul}
 use native.Mathlib.Numerals.{add-one}
 use native.Mathlib.Omega.{arith}
 use borrow.Author.Tests.{leb-true}
@@ -51,10 +51,6 @@ steps xs n i h l = record { here = start-le xs n i h (omega arith); next = start
 -- a product of a start, or of a difference of two, and a side
 pub samples-lt : (a s : ℕ) → a ≤ 1024 → s ≤ 256 → a * s < 2 ^ 32
 samples-lt a s h k = omega (arith, mul-le-mul h k)
-
--- tile k of cols * rows, counted row by row, is in one of the rows
-pub row-lt : (k cols rows : ℕ) → 1 ≤ cols → k < cols * rows → k / cols < rows
-row-lt k cols rows h l = div-lt-iff-lt-mul h .1 (rw (mul-comm rows cols) l)
 
 -- a layout that has rectangles
 pub record Described (t : TileInfo) (code : ℕ) : Type 0 where

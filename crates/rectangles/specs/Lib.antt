@@ -1,2 +1,2 @@
 pub mod Rectangles
-pub mod Rows
+pub mod Places

@@ -1,13 +1,11 @@
--- The rectangles of a layout's tiles: document 01, "Tile rectangles".
-use mathlib.Core.Path.{_≡_}
-use mathlib.Core.Bool.{Bool, true, false, _&&_}
-use mathlib.Core.List.{List, [], _∷_}
-use Prim.Native.Nat.{ℕ, zero, suc, _+_, _-_, _*_, _≤_, _<_}
+-- The rectangles of a layout's tiles: document 01, "Tile rectangles", and their order: request #104.
+use mathlib.Core.Bool.{Bool, _&&_}
+use mathlib.Core.List.{List, [], _∷_, _++_}
+use Prim.Native.Nat.{ℕ, zero, suc, _+_, _-_, _*_}
 use lib.Dec.{leb}
-use lib.ListN.{length, getD}
+use lib.ListN.{length, getD, drop}
 use Rattle.answers.specs.declared.Answer.{Answer}
 use Rattle.answers.specs.declared.Answer.the-variants.{Accepted, WrongArguments, ShortBuffer}
-use Rattle.answers.specs.Numbers.{isRefusal}
 use Rattle.getbits.specs.Chain.{pick}
 use Rattle.tile_layout.specs.Limits.{size}
 use Rattle.tile_layout.specs.declared.TileInfo.{TileInfo}
@@ -32,44 +30,35 @@ hasRectangles t code =
 abbrev pub rectangleNumbers : TileInfo → ℕ
 rectangleNumbers t = 4 * (t .cols * t .rows)
 
--- is the layout as described? No: 4. Has the buffer four numbers a tile? No: 5
-unfoldable pub rectanglesAnswer : TileInfo → ℕ → ℕ → Answer
-rectanglesAnswer t code room = pick (hasRectangles t code) (pick (leb (rectangleNumbers t) room) Accepted ShortBuffer) WrongArguments
-
 -- where tile i along one direction begins and how far it reaches, in samples: from its start to the next start
 abbrev pub begins : List ℕ → ℕ → ℕ → ℕ
-begins starts code i = getD starts i 0 * size code
+begins starts side i = getD starts i 0 * side
 
 abbrev pub reaches : List ℕ → ℕ → ℕ → ℕ
-reaches starts code i = (getD starts (i + 1) 0 - getD starts i 0) * size code
+reaches starts side i = (getD starts (i + 1) 0 - getD starts i 0) * side
 
 -- left, top, width and height of the tile in a column and a row
 abbrev pub rectangle : TileInfo → ℕ → ℕ → ℕ → List ℕ
 rectangle t code col row =
-    begins (t .«col_start_sb») code col
-    ∷ begins (t .«row_start_sb») code row
-    ∷ reaches (t .«col_start_sb») code col
-    ∷ reaches (t .«row_start_sb») code row
+    begins (t .«col_start_sb») (size code) col
+    ∷ begins (t .«row_start_sb») (size code) row
+    ∷ reaches (t .«col_start_sb») (size code) col
+    ∷ reaches (t .«row_start_sb») (size code) row
     ∷ []
 
--- Accepted: the program's own order, and the buffer in it.
-pub record Filled (t : TileInfo) (code : ℕ) (before after : List ℕ) : Type 0 where
-  -- the order: which place among the tiles the tile of a column and a row has
-  pub place : ℕ → ℕ → ℕ
-  -- each tile has one place, below the number of tiles, and no two have the same
-  pub within : (col row : ℕ) → col < t .cols → row < t .rows → place col row < t .cols * t .rows
-  pub once : (col row col' row' : ℕ) → col < t .cols → row < t .rows → col' < t .cols → row' < t .rows
-      → place col row ≡ place col' row' → (col ≡ col') × (row ≡ row')
-  -- at its place stand its left, top, width and height
-  pub stands : (col row k : ℕ) → col < t .cols → row < t .rows → k < 4
-      → getD after (4 * place col row + k) 0 ≡ getD (rectangle t code col row) k 0
-  -- numbers behind the last stay
-  pub behind : (k : ℕ) → rectangleNumbers t ≤ k → getD after k 0 ≡ getD before k 0
+-- f 0, f 1, .. f (n - 1), one behind the other
+unfoldable pub each : {A : Type 0} → ℕ → (ℕ → List A) → List A
+each zero f = []
+each (suc n) f = each n f ++ f n
 
--- what a call does to the buffer
-pub record Outcome (t : TileInfo) (code : ℕ) (z : Answer) (before after : List ℕ) : Type 0 where
-  -- after 4 or 5 it is unchanged
-  pub unchanged : isRefusal z ≡ true → after ≡ before
-  pub filled : isRefusal z ≡ false → Filled t code before after
-  -- it keeps its length
-  pub long : length after ≡ length before
+-- all tiles, row by row from the top, and in each row column by column from the left
+unfoldable pub rectangles : TileInfo → ℕ → List ℕ
+rectangles t code = each (t .rows) λ row. each (t .cols) λ col. rectangle t code col row
+
+-- the answer, and the buffer after it: the numbers of all tiles, and behind them what was there.
+-- Is the layout as described? No: 4. Has the buffer four numbers a tile? No: 5. Refused, the buffer is as it was
+unfoldable pub tileRectangles : TileInfo → ℕ → List ℕ → Answer × List ℕ
+tileRectangles t code out =
+    pick (hasRectangles t code)
+    (pick (leb (rectangleNumbers t) (length out)) (Accepted, rectangles t code ++ drop (rectangleNumbers t) out) (ShortBuffer, out))
+    (WrongArguments, out)

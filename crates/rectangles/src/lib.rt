@@ -1,23 +1,20 @@
 // The rectangles of a layout's tiles, into a lent buffer.
 ghost use mathlib.Core.Path.{_≡_};
 ghost use mathlib.Core.Bool.{true};
-ghost use mathlib.Core.List.{[], _∷_};
-ghost use Prim.Native.Nat.{_+_, _*_, _-_, _/_, _%_, _<_, _≤_};
-ghost use lib.ListN.{length, getD};
+ghost use mathlib.Core.List.{[], _∷_, _++_};
+ghost use Prim.Native.Nat.{_+_, _*_, _<_, _≤_};
+ghost use lib.ListN.{length, getD, drop};
 ghost use lib.Seq.{sets};
 ghost use Rattle.tile_layout.specs.Limits.{size};
-ghost use Rattle.tile_layout.specs.Layout.{over};
-ghost use Rattle.rectangles.specs.Rectangles.{rising, hasRectangles, rectangleNumbers, rectanglesAnswer, rectangle, Outcome};
-ghost use Rattle.rectangles.specs.Rows.{rowByRow};
+ghost use Rattle.rectangles.specs.Rectangles.{rising, hasRectangles, rectangleNumbers, begins, reaches, each, rectangles, tileRectangles};
 use answers::Answer;
 use tile_layout::TileInfo;
 use tile_layout::start_at;
 
-struct Rectangle {
-    left: u32,
-    top: u32,
-    width: u32,
-    height: u32,
+// A tile along one direction: where it begins, and how far it reaches, in samples.
+struct Span {
+    begin: u32,
+    reach: u32,
 }
 
 fn u16_to_u32(x: u16) -> u32
@@ -65,67 +62,62 @@ fn side_of(sb128: u8) -> u32
     }
 }
 
-// Where tile i begins.
-fn begin(starts: &[u16], side: u32, i: usize) -> u32
-    requires { ⌜ (getD (now starts) i 0 ≤ 1024) × (side ≤ 256) ⌝ }
-    ensures { λ r. ⌜ r ≡ getD (now (starts .entry)) i 0 * side ⌝ }
+fn span_of(starts: &[u16], side: u32, i: usize) -> Span
+    requires { ⌜ (getD (now starts) i 0 ≤ getD (now starts) (i + 1) 0) × (getD (now starts) (i + 1) 0 ≤ 1024) × (side ≤ 256) × (i < 64) ⌝ }
+    ensures { λ r. ⌜ (r .begin ≡ begins (now (starts .entry)) side i) × (r .reach ≡ reaches (now (starts .entry)) side i) ⌝ }
 {
-    u16_to_u32(start_at(starts, i)) * side
-}
-
-// How far it reaches.
-fn reach(starts: &[u16], side: u32, i: usize) -> u32
-    requires { ⌜ (getD (now starts) i 0 ≤ getD (now starts) (i + 1) 0) × (getD (now starts) (i + 1) 0 ≤ 1024) × (side ≤ 256) × (i < 65536) ⌝ }
-    ensures { λ r. ⌜ r ≡ (getD (now (starts .entry)) (i + 1) 0 - getD (now (starts .entry)) i 0) * side ⌝ }
-{
-    (u16_to_u32(start_at(starts, i + 1)) - u16_to_u32(start_at(starts, i))) * side
-}
-
-// The rectangle of tile k, counted row by row.
-fn rectangle_of(t: TileInfo, sb128: u8, k: usize) -> Rectangle
-    requires { ⌜ (hasRectangles t «sb128» ≡ true) × (k < t .cols * t .rows) ⌝ }
-    ensures { λ r. ⌜ (r .left ∷ r .top ∷ r .width ∷ r .height ∷ []) ≡ rectangle t «sb128» (k % t .cols) (k / t .cols) ⌝ }
-{
-    let cols = t.cols as usize;
-    let col = k % cols;
-    let row = k / cols;
-    let side = side_of(sb128);
-    let col_start_sb = t.col_start_sb;
-    let row_start_sb = t.row_start_sb;
-    Rectangle {
-        left: begin(&col_start_sb, side, col),
-        top: begin(&row_start_sb, side, row),
-        width: reach(&col_start_sb, side, col),
-        height: reach(&row_start_sb, side, row),
+    let start = u16_to_u32(start_at(starts, i));
+    let next = u16_to_u32(start_at(starts, i + 1));
+    Span {
+        begin: start * side,
+        reach: (next - start) * side,
     }
 }
 
-fn put_rectangle(out: &mut [u32], at: usize, r: Rectangle)
+fn put_rectangle(out: &mut [u32], at: usize, across: Span, down: Span)
     requires { ⌜ at + 4 ≤ length (now out) ⌝ }
-    ensures { λ _. ⌜ now (out .exit) ≡ sets (now (out .entry)) at (r .left ∷ r .top ∷ r .width ∷ r .height ∷ []) ⌝ }
+    ensures { λ _. ⌜ now (out .exit) ≡ sets (now (out .entry)) at (across .begin ∷ down .begin ∷ across .reach ∷ down .reach ∷ []) ⌝ }
 {
-    out[at] = r.left;
-    out[at + 1] = r.top;
-    out[at + 2] = r.width;
-    out[at + 3] = r.height;
+    out[at] = across.begin;
+    out[at + 1] = down.begin;
+    out[at + 2] = across.reach;
+    out[at + 3] = down.reach;
 }
 
-fn write_tiles(t: TileInfo, sb128: u8, out: &mut [u32])
-    requires { ⌜ (hasRectangles t «sb128» ≡ true) × (rectangleNumbers t ≤ length (now out)) ⌝ }
-    ensures { λ _. ⌜ now (out .exit) ≡ over (rowByRow t «sb128» (t .cols * t .rows)) (now (out .entry)) ⌝ }
+// The tiles of a row, from the left.
+fn put_row(out: &mut [u32], at: usize, starts: &[u16], cols: usize, side: u32, down: Span)
+    requires { ⌜ (at + 4 * cols ≤ length (now out)) × (rising (now starts) cols ≡ true) × (cols ≤ 64) × (side ≤ 256) ⌝ }
+    ensures { λ _. ⌜ now (out .exit) ≡ sets (now (out .entry)) at
+        (each cols λ col. begins (now (starts .entry)) side col ∷ down .begin ∷ reaches (now (starts .entry)) side col ∷ down .reach ∷ []) ⌝ }
 {
-    let tiles = t.cols as usize * t.rows as usize;
-    let mut k: usize = 0;
-    while k < tiles {
-        let r = rectangle_of(t, sb128, k);
-        put_rectangle(&mut *out, 4 * k, r);
-        k += 1;
+    let mut col: usize = 0;
+    while col < cols {
+        let across = span_of(starts, side, col);
+        put_rectangle(&mut *out, at + 4 * col, across, down);
+        col += 1;
+    }
+}
+
+// All rows, from the top.
+fn put_rows(t: TileInfo, sb128: u8, out: &mut [u32])
+    requires { ⌜ (hasRectangles t «sb128» ≡ true) × (rectangleNumbers t ≤ length (now out)) ⌝ }
+    ensures { λ _. ⌜ now (out .exit) ≡ rectangles t «sb128» ++ drop (rectangleNumbers t) (now (out .entry)) ⌝ }
+{
+    let cols = t.cols as usize;
+    let rows = t.rows as usize;
+    let col_start_sb = t.col_start_sb;
+    let row_start_sb = t.row_start_sb;
+    let side = side_of(sb128);
+    let mut row: usize = 0;
+    while row < rows {
+        let down = span_of(&row_start_sb, side, row);
+        put_row(&mut *out, 4 * cols * row, &col_start_sb, cols, side, down);
+        row += 1;
     }
 }
 
 pub fn tile_rectangles(t: TileInfo, sb128: u8, out: &mut [u32]) -> Answer
-    ensures { λ r. ⌜ r ≡ rectanglesAnswer t «sb128» (length (now (out .entry))) ⌝ }
-    ensures { λ r. ⌜ Outcome t «sb128» r (now (out .entry)) (now (out .exit)) ⌝ }
+    ensures { λ r. ⌜ (r, now (out .exit)) ≡ tileRectangles t «sb128» (now (out .entry)) ⌝ }
 {
     if !has_rectangles(t, sb128) {
         return Answer::WrongArguments;
@@ -133,6 +125,6 @@ pub fn tile_rectangles(t: TileInfo, sb128: u8, out: &mut [u32]) -> Answer
     if out.len() < 4 * (t.cols as usize * t.rows as usize) {
         return Answer::ShortBuffer;
     }
-    write_tiles(t, sb128, &mut *out);
+    put_rows(t, sb128, &mut *out);
     Answer::Accepted
 }

@@ -3,10 +3,10 @@ use mathlib.Core.List.{List, [], _∷_, _++_}
 use mathlib.Core.Logic.{⊎-elim}
 use mathlib.Core.Path.{_≡_, refl, sym, ap, _∙_}
 use Prim.Native.Nat.{ℕ, suc, _+_, _-_, _≤_}
-use native.Mathlib.Nat.{add-zero, add-suc, suc-add}
 use native.Mathlib.Omega.{arith}
 use Rattle.getbits.proofs.Places.{lt-or-le}
-use lib.ListN.{length, set, take, length-append}
+use Rattle.getbits.proofs.Stores.{sets-append}
+use lib.ListN.{length, take, length-append}
 use lib.Seq.{sets, set-out, length-sets, sets-eq, take-at, length-take-le}
 use Rattle.text.specs.Text.{behind, Put}
 
@@ -14,10 +14,6 @@ use Rattle.text.specs.Text.{behind, Put}
 pub sets-out : (l : List ℕ) (i : ℕ) (vs : List ℕ) → length l ≤ i → sets l i vs ≡ l
 sets-out l i [] h = refl
 sets-out l i (v ∷ vs) h = rw (set-out l i v h) (sets-out l (suc i) vs (omega arith))
-
-pub sets-append : (l : List ℕ) (i : ℕ) (a b : List ℕ) → sets l i (a ++ b) ≡ sets (sets l i a) (i + length a) b
-sets-append l i [] b = rw add-zero refl
-sets-append l i (v ∷ a) b = sets-append (set l i v) (suc i) a b ∙ ap (λ (k : ℕ). sets (sets (set l i v) (suc i) a) k b) (suc-add i (length a) ∙ sym (add-suc i (length a)))
 
 -- nothing is put
 pub none : (l : List ℕ) (i : ℕ) → Put 0 l i [] l i

@@ -1,4 +1,4 @@
-// What the programs tile and panel share: a request with tiling bits in bytes, and the text of a layout read.
+// What the programs tile, panel and rects share: a request with tiling bits in bytes, and the text of a layout read.
 ghost use mathlib.Core.Path.{_≡_};
 ghost use Prim.Native.Nat.{_+_};
 ghost use lib.IntN.{pos};

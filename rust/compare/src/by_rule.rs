@@ -3,6 +3,7 @@
 use crate::case::{Case, Outcome, Place};
 use crate::kind::Kind;
 use crate::records::{GRAIN, HEADER, SEG, TILE};
+use crate::rectangles;
 use crate::rule::Rule;
 
 /// What stands in each number that is lent for a header or for film grain parameters.
@@ -13,7 +14,7 @@ pub fn decided(case: &Case, out: &mut Outcome) -> bool {
     let a = &case.args;
     match case.kind {
         kind if is_short(kind, &case.lent) => short(case, out),
-        Kind::TileRectangles => rectangles(a, out),
+        Kind::TileRectangles => rectangles::rectangles(a, out),
         Kind::ParseTileInfo | Kind::ParseTileInfoWithin if !in_domain(&a[TILE..]) => {
             outside_domain(case, out);
         }
@@ -54,7 +55,7 @@ fn lent_record(case: &Case, out: &mut Outcome) {
         Kind::ParseSeqHdr => out.record.resize(HEADER, LENT),
         Kind::ParseFilmGrainData => out.record.resize(GRAIN, LENT),
         Kind::ParseSegInfo => out.record.extend(&a[..SEG]),
-        Kind::TileRectangles => lent_numbers(a, out),
+        Kind::TileRectangles => rectangles::lent(a, out),
         _ => out.record.extend(case.given()),
     }
 }
@@ -115,46 +116,4 @@ fn are_usable(tiles: i64, log2: i64, starts: &[i64]) -> bool {
     (1..=64).contains(&tiles)
         && log2 <= 6
         && starts[..=tiles as usize].iter().all(|&start| start <= 1024)
-}
-
-/// The layout's 139 numbers, the superblock code, the buffer's length and its first number.
-fn rectangles(a: &[i64], out: &mut Outcome) {
-    let (t, code, len) = (&a[..TILE], a[TILE], a[TILE + 1]);
-    out.rule = Some(Rule::Rectangles);
-    lent_numbers(a, out);
-    let (cols, rows) = (t[4], t[8]);
-    if code > 2 || !never_fall(cols, &t[9..74]) || !never_fall(rows, &t[74..]) {
-        out.answer = 4;
-        return;
-    }
-    if len < 4 * cols * rows {
-        out.answer = 5;
-        return;
-    }
-    // Row by row, as the library's contract says; document 01 leaves the order open.
-    let size = 64 << code;
-    let tiles = (0..rows as usize).flat_map(|row| (0..cols as usize).map(move |col| (col, row)));
-    for (tile, (col, row)) in tiles.enumerate() {
-        let (left, right) = (t[9 + col] * size, t[10 + col] * size);
-        let (top, bottom) = (t[74 + row] * size, t[75 + row] * size);
-        out.record[4 * tile..4 * tile + 4].copy_from_slice(&[
-            left,
-            top,
-            right - left,
-            bottom - top,
-        ]);
-    }
-}
-
-/// The numbers that are lent for rectangles: so many, from the first one on.
-fn lent_numbers(a: &[i64], out: &mut Outcome) {
-    let (len, first) = (a[TILE + 1], a[TILE + 2]);
-    out.record
-        .extend((0..len).map(|i| i64::from((first + i) as u32)));
-}
-
-fn never_fall(tiles: i64, starts: &[i64]) -> bool {
-    (1..=64).contains(&tiles)
-        && starts[..=tiles as usize].is_sorted()
-        && starts[tiles as usize] <= 1024
 }

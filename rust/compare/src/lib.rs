@@ -40,9 +40,12 @@ mod theirs;
 #[cfg(feature = "ours")]
 pub mod wrong;
 
-/// The rule of a limit, from the file that the build script names.
+// The rules that stand beside the Rust's reading, from the files that the build script names: of a limit, and of rectangles.
 pub mod within {
     include!(env!("WITHIN_RULE"));
+}
+mod rectangles {
+    include!(env!("RECTANGLES_RULE"));
 }
 
 // The Rust's callers name these by their paths in its crate.

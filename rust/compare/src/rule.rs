@@ -10,7 +10,7 @@ pub enum Rule {
     Domain,
     /// Refused with 2: the record given comes back. The Rust leaves it half changed.
     WholeRecord,
-    /// The rectangles are not the Rust's.
+    /// The rectangles, row by row, are not the Rust's.
     Rectangles,
     /// A lent buffer is too short: 5, nothing changes.
     Short,
@@ -35,7 +35,7 @@ impl Rule {
             Self::PastEnd => "a place past the last bit counts as the end",
             Self::Domain => "an argument outside the domain: 4, no bit used",
             Self::WholeRecord => "refused with 2: the record given comes back whole",
-            Self::Rectangles => "the rectangles are document 01's, not the Rust's",
+            Self::Rectangles => "the rectangles are document 01's, row by row, and not the Rust's",
             Self::Short => "a lent buffer too short: 5, nothing changes",
             Self::TooMany => "more columns or rows than the limit: 6, the record given comes back",
         }

@@ -1,4 +1,4 @@
-//! Wrong versions of the Rust and of the rule of a limit, one line each, and how many stored answers notice each of them.
+//! Wrong versions of the Rust and of the rules of a limit and of rectangles, one line each, and how many stored answers notice each of them.
 
 use crate::rebuild;
 use std::fmt::Write;
@@ -11,18 +11,22 @@ use std::{fs, thread};
 /// end of a line.
 const VERSIONS: &str = include_str!("../wrong.tsv");
 
-/// The rule of a limit, which is taken from beside the Rust's files where it stands there.
-const RULE: &str = "within.rs";
-
-/// The Rust's files that the oracle is made of, and the rule.
-const FILES: [&str; 5] = ["getbits.rs", "intops.rs", "headers.rs", "obu.rs", RULE];
+/// The Rust's files that the oracle is made of, and the rules, which are taken from beside them where they stand there.
+const FILES: [&str; 6] = [
+    "getbits.rs",
+    "intops.rs",
+    "headers.rs",
+    "obu.rs",
+    "within.rs",
+    "rectangles.rs",
+];
 
 /// Where the right version of a file stands.
 fn right(file: &str) -> PathBuf {
-    if file == RULE {
-        PathBuf::from(env!("WITHIN_RULE"))
-    } else {
-        Path::new(oracle::FOLDER).join(file)
+    match file {
+        "within.rs" => PathBuf::from(env!("WITHIN_RULE")),
+        "rectangles.rs" => PathBuf::from(env!("RECTANGLES_RULE")),
+        _ => Path::new(oracle::FOLDER).join(file),
     }
 }
 

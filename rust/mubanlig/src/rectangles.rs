@@ -4,8 +4,9 @@ use crate::error::{Error, answer};
 use crate::ffi;
 use crate::headers::TileInfo;
 
-/// Writes left, top, width and height of each tile, in samples, into a buffer: four numbers a tile. The tiles' order is
-/// left open, and numbers behind the last stay.
+/// Writes left, top, width and height of each tile, in samples, into a buffer: four numbers a tile, and numbers behind the
+/// last stay. The tiles come top row first, and left to right within a row: that of a column and a row, both counted from
+/// 0, is number row * columns + column.
 ///
 /// `sb128` is the superblock code that the layout's starts are counted in. A tile at the right or lower edge reaches to
 /// the end of its last superblock. A refusal leaves the buffer as it was.
@@ -19,15 +20,22 @@ use crate::headers::TileInfo;
 /// ```
 /// use mubanlig::{Error, GetBits, TileInfo, parse_tile_info, tile_rectangles};
 ///
+/// // 256 by 128 samples in superblocks of 64: three columns and two rows.
 /// let mut layout = TileInfo::default();
-/// parse_tile_info(&mut layout, &mut GetBits::new(&[0x28]), 1, 0, 0, 256, 128, 0, 0)?;
+/// parse_tile_info(&mut layout, &mut GetBits::new(&[0x20]), 1, 0, 0, 256, 128, 0, 0)?;
 /// let mut out = vec![0; 4 * layout.tiles()];
 /// tile_rectangles(&layout, 0, &mut out)?;
-/// let mut tiles: Vec<&[u32]> = out.chunks(4).collect();
-/// tiles.sort();
-/// assert_eq!(tiles, [[0, 0, 128, 128], [128, 0, 64, 128], [192, 0, 64, 128]]);
+/// let tiles: Vec<&[u32]> = out.chunks(4).collect();
+/// assert_eq!(tiles, [
+///     [0, 0, 128, 64], [128, 0, 64, 64], [192, 0, 64, 64],
+///     [0, 64, 128, 64], [128, 64, 64, 64], [192, 64, 64, 64],
+/// ]);
 ///
-/// assert_eq!(tile_rectangles(&layout, 0, &mut out[..11]), Err(Error::ShortBuffer));
+/// // The tile in the last column of the second row.
+/// let (col, row) = (2, 1);
+/// assert_eq!(tiles[row * usize::from(layout.cols) + col], [192, 64, 64, 64]);
+///
+/// assert_eq!(tile_rectangles(&layout, 0, &mut out[..23]), Err(Error::ShortBuffer));
 /// assert_eq!(tile_rectangles(&layout, 3, &mut out), Err(Error::WrongArguments));
 /// # Ok::<(), mubanlig::Error>(())
 /// ```

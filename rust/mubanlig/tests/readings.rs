@@ -598,12 +598,21 @@ fn an_import_of_all_shadows_nothing() {
 }
 
 #[test]
-fn rectangles_cover_the_superblocks() {
-    let t = layout([0, 0], 256, 128, &[0x28]).0.unwrap();
-    let mut out = [7; 13];
-    assert_eq!(t.tiles(), 3);
+fn rectangles_come_row_by_row() {
+    let t = layout([0, 0], 256, 128, &[0x20]).0.unwrap();
+    assert_eq!((t.cols, t.rows, t.tiles()), (3, 2, 6));
+    let mut out = [7; 25];
     tile_rectangles(&t, 0, &mut out).unwrap();
-    let area: u32 = out[..12].chunks(4).map(|tile| tile[2] * tile[3]).sum();
+    let mut expected = Vec::new();
+    for down in t.row_starts().windows(2) {
+        for across in t.col_starts().windows(2) {
+            let [left, right] = [across[0], across[1]].map(|start| 64 * u32::from(start));
+            let [top, bottom] = [down[0], down[1]].map(|start| 64 * u32::from(start));
+            expected.extend([left, top, right - left, bottom - top]);
+        }
+    }
+    assert_eq!(out[..24], expected);
+    assert_eq!(out[24], 7);
+    let area: u32 = out[..24].chunks(4).map(|tile| tile[2] * tile[3]).sum();
     assert_eq!(area, 256 * 128);
-    assert_eq!(out[12], 7);
 }

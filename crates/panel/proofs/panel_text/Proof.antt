@@ -7,16 +7,17 @@ use borrow.Author.Tests.{ne-eqb}
 use lib.ListN.{length, take, drop, length-drop}
 use lib.Seq.{take-all}
 use Rattle.text.proofs.Puts.{stands}
+use Rattle.program.specs.Output.{eitherText}
 use Rattle.panel.specs.Print.{panelText}
 use Rattle.panel.proofs.panel_text.Statement.{statement}
 use Rattle.panel.proofs.panel_text.Tie as tie
 
 returns : tie.Need-returns
-unfolding panelText
+unfolding panelText eitherText
 returns c = rw (c .before .before .if1 .taken) (stands (search needs) (c .put-refused .ensures))
 
 returns-2 : tie.Need-returns-2
-unfolding panelText
+unfolding panelText eitherText
 returns-2 c =
     let e = c .before .before .before .before in
     let s = e .before .before .args .input .now in

@@ -3,26 +3,26 @@ use native.Mathlib.Omega.{arith}
 use borrow.Author.Needs.{needs}
 use borrow.Author.Tests.{ne-eqb}
 use Rattle.text.proofs.Puts.{within}
-use Rattle.panel.specs.Print.{panelRestText}
+use Rattle.program.specs.Output.{chosenText}
 use Rattle.panel.proofs.put_rest.Statement.{statement}
 use Rattle.panel.proofs.put_rest.Tie as tie
 
 returns : tie.Need-returns
-unfolding panelRestText
+unfolding chosenText
 returns c =
     let p = c .before .before in
     let q = p .before in
     rw (q .before .before .if1 .taken, ← q .panel-tiles .ensures) (p .put-tile-read .ensures)
 
 returns-2 : tie.Need-returns-2
-unfolding panelRestText
+unfolding chosenText
 returns-2 c =
     let p = c .before .before in
     let q = p .before in
     rw (q .before .before .if2 .taken, ← q .panel-frame .ensures) (within (omega arith) (p .put-frame-read .ensures))
 
 returns-3 : tie.Need-returns-3
-unfolding panelRestText
+unfolding chosenText
 returns-3 c =
     let p = c .before .before in
     let t = p .before .before in

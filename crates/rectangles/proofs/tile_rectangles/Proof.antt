@@ -1,15 +1,15 @@
 -- `rectangles::tile_rectangles` meets its contract. Assumes nothing.
 use mathlib.Core.Bool.{true}
-use mathlib.Core.Path.{_≡_, refl, sym, subst, _∙_}
-use Prim.Native.Nat.{_*_, _≤_}
+use mathlib.Core.Path.{_≡_, sym, ap, _∙_}
+use mathlib.Core.List.{List}
+use Prim.Native.Nat.{ℕ, _*_, _≤_}
+use Rattle.answers.specs.declared.Answer.the-variants.{Accepted}
 use native.Mathlib.Omega.{arith}
 use borrow.Author.Tests.{le-leb, lt-leb, not-true, not-false}
 use borrow.Author.Needs.{needs}
 use lib.ListN.{length}
-use lib.Dec.{T}
-use Rattle.rectangles.proofs.Order.{in-order, same-long}
 use Rattle.rectangles.proofs.Rising.{tiles-le}
-use Rattle.rectangles.specs.Rectangles.{hasRectangles, rectangleNumbers, rectanglesAnswer}
+use Rattle.rectangles.specs.Rectangles.{hasRectangles, rectangleNumbers, tileRectangles}
 use Rattle.getbits.proofs.Chain.{taken, left}
 use Rattle.rectangles.proofs.tile_rectangles.Statement.{statement}
 use Rattle.rectangles.proofs.tile_rectangles.Tie as tie
@@ -22,10 +22,8 @@ most : (k : tie.Else1) → k .before .before .before .args .t .cols * k .before 
 most k = tiles-le (k .before .before .before .args .t) (k .before .before .before .args .sb128) (good k)
 
 returns : tie.Need-returns
-unfolding rectanglesAnswer
-returns c =
-    let k = c .before in
-    (sym (left _ _ _ (sym (k .has-rectangles .ensures) ∙ not-true _ (c .if1 .taken))), record { unchanged = λ _. refl; filled = λ e. absurd (subst T e tt); long = refl })
+unfolding tileRectangles
+returns c = sym (left _ _ _ (sym (c .before .has-rectangles .ensures) ∙ not-true _ (c .if1 .taken)))
 
 mul-if2 : tie.Need-mul-if2
 mul-if2 c = omega (arith, most (c .before .before))
@@ -34,32 +32,21 @@ mul-if2-2 : tie.Need-mul-if2-2
 mul-if2-2 c = omega (arith, most (c .before .before))
 
 returns-2 : tie.Need-returns-2
-unfolding rectanglesAnswer
+unfolding tileRectangles
 returns-2 c =
-    let k = c .before .before .before in
-    let a = c .before .before .before .before .before .before .args in (
-      sym (taken _ _ _ (good k) ∙ left _ _ _ (lt-leb (rectangleNumbers (a .t)) (length (a .out .now)) (c .if2 .taken))),
-      record { unchanged = λ _. refl; filled = λ e. absurd (subst T e tt); long = refl },
-    )
+    let a = c .before .before .before .before .before .before .args in
+    sym (taken _ _ _ (good (c .before .before .before)) ∙ left _ _ _ (lt-leb (rectangleNumbers (a .t)) (length (a .out .now)) (c .if2 .taken)))
 
-write-tiles-requires : tie.Need-write-tiles-requires
-write-tiles-requires c κs =
-    let k = c .before .before .before .before in
-    (good k, c .before .if2 .left)
+put-rows-requires : tie.Need-put-rows-requires
+put-rows-requires c κs = (good (c .before .before .before .before), c .before .if2 .left)
 
 returns-3 : tie.Need-returns-3
-unfolding rectanglesAnswer
+unfolding tileRectangles
 returns-3 c =
     let k = c .before .before .before .before .before .before .before in
     let a = c .before .before .before .before .before .before .before .before .before .before .args in
-    let w = c .before .before .write-tiles in (
-      sym (taken _ _ _ (good k) ∙ taken _ _ _ (le-leb (rectangleNumbers (a .t)) (length (a .out .now)) (c .before .before .before .before .if2 .left))),
-      record {
-        unchanged = λ e. absurd (subst T (sym e) tt);
-        filled = λ _. in-order (a .t) (a .sb128) (a .out .now) (w .last .1 .1 .0) (w .ensures);
-        long = same-long (a .t) (a .sb128) (a .out .now) (w .last .1 .1 .0) (c .before .before .before .before .if2 .left) (w .ensures);
-      },
-    )
+    ap (λ (x : List ℕ). (Accepted, x)) (c .before .before .put-rows .ensures)
+    ∙ sym (taken _ _ _ (good k) ∙ taken _ _ _ (le-leb (rectangleNumbers (a .t)) (length (a .out .now)) (c .before .before .before .before .if2 .left)))
 
 pub tile-rectangles-spec : {M : Type 1} → statement M
 tile-rectangles-spec =
@@ -72,6 +59,6 @@ tile-rectangles-spec =
     mul-if2
     mul-if2-2
     returns-2
-    write-tiles-requires
+    put-rows-requires
     (λ c. search needs)
     returns-3)

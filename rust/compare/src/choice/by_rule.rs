@@ -293,6 +293,23 @@ impl Adder<'_> {
                 self.case(Kind::TileRectangles, args);
             }
         }
+        // The largest closing entry, and one more.
+        for starts in [9, 74] {
+            for closing in [1024, 1025] {
+                for code in 0..3 {
+                    let mut args = vec![0; TILE];
+                    (args[4], args[8]) = (2, 2);
+                    args[10..12].copy_from_slice(&[3, 8]);
+                    args[75..77].copy_from_slice(&[2, 9]);
+                    args[starts + 2] = closing;
+                    args.extend([code, 17, 5]);
+                    self.list.push(Case {
+                        args,
+                        ..Case::of(Kind::TileRectangles)
+                    });
+                }
+            }
+        }
         for (cols, rows) in [(0, 0), (0, 1), (1, 0), (65, 65), (64, 0), (255, 255)] {
             let mut args = self.layout_and_buffer(0);
             (args[4], args[8]) = (cols, rows);

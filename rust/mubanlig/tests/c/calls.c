@@ -382,9 +382,24 @@ static void no_data(void)
     CHECK(same(&r, &zero));
 }
 
+/* Each tile's numbers stand at its place, row by row. */
+static void check_rectangles(const struct record *r, uint8_t sb128)
+{
+    const uint32_t side = 64u << sb128;
+    const size_t columns = r->info[MUBANLIG_INFO_COLS];
+    size_t col, row;
+    for (row = 0; row < r->info[MUBANLIG_INFO_ROWS]; row++) {
+        for (col = 0; col < columns; col++) {
+            const uint32_t *tile = r->out + MUBANLIG_TILE_NUMBERS * (row * columns + col);
+            CHECK(tile[0] == r->cols[col] * side && tile[0] + tile[2] == r->cols[col + 1] * side);
+            CHECK(tile[1] == r->rows[row] * side && tile[1] + tile[3] == r->rows[row + 1] * side);
+        }
+    }
+}
+
 static void a_layout_and_its_rectangles(void)
 {
-    static const uint8_t S[] = { 0x28 };
+    static const uint8_t S[] = { 0x20 };
     static const uint32_t WHOLE[] = { 0, 2, 3, 4 };
     struct record r = filled(0);
     struct lengths n = LONG;
@@ -392,17 +407,18 @@ static void a_layout_and_its_rectangles(void)
     size_t i;
     CHECK(layout(some(S, sizeof S), &r, LONG, SMALL) == MUBANLIG_ACCEPTED);
     CHECK(r.position == 5 && r.error == 0);
-    CHECK(r.info[MUBANLIG_INFO_UNIFORM] == 0 && r.info[MUBANLIG_INFO_COLS] == 3 && r.info[MUBANLIG_INFO_ROWS] == 1);
+    CHECK(r.info[MUBANLIG_INFO_UNIFORM] == 0 && r.info[MUBANLIG_INFO_COLS] == 3 && r.info[MUBANLIG_INFO_ROWS] == 2);
     for (i = 0; i < 4; i++) {
         CHECK(r.cols[i] == WHOLE[i]);
     }
-    CHECK(r.rows[0] == 0 && r.rows[1] == 2);
-    n.out = 11;
+    CHECK(r.rows[0] == 0 && r.rows[1] == 1 && r.rows[2] == 2);
+    n.out = 23;
     CHECK(rectangles(&r, n, 0) == MUBANLIG_SHORT_BUFFER && r.out[0] == 0);
-    n.out = 13;
-    r.out[12] = 7;
-    CHECK(rectangles(&r, n, 0) == MUBANLIG_ACCEPTED && r.out[12] == 7);
-    for (i = 0; i < 12; i += MUBANLIG_TILE_NUMBERS) {
+    n.out = 25;
+    r.out[24] = 7;
+    CHECK(rectangles(&r, n, 0) == MUBANLIG_ACCEPTED && r.out[24] == 7);
+    check_rectangles(&r, 0);
+    for (i = 0; i < 24; i += MUBANLIG_TILE_NUMBERS) {
         area += r.out[i + 2] * r.out[i + 3];
     }
     CHECK(area == 256 * 128);
@@ -923,6 +939,9 @@ static void random_turn(void)
         check_layout(&r, ((uint32_t)a.w + mark) >> (6 + a.sb128), ((uint32_t)a.h + mark) >> (6 + a.sb128));
         answer = rectangles(&r, LONG, a.sb128);
         CHECK(answer == MUBANLIG_ACCEPTED || answer == MUBANLIG_SHORT_BUFFER);
+        if (answer == MUBANLIG_ACCEPTED) {
+            check_rectangles(&r, a.sb128);
+        }
     }
     on_wall = given;
     answer = layout(b, &on_wall, LONG, a);

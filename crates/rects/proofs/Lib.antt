@@ -1,0 +1,2 @@
+pub mod Tiles
+pub mod Readings
