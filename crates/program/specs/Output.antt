@@ -1,4 +1,4 @@
--- What the programs print alike: the first line of a layout, a line of starts, the line of a refusal, a reader's place, and which program's text.
+-- What the programs print alike: the first line of a layout, a line of starts, the line of a refusal, a reader's place, and which of two texts.
 use mathlib.Core.Bool.{Bool}
 use mathlib.Core.List.{List, [], _∷_, _++_}
 use Prim.Native.Nat.{ℕ}
@@ -34,10 +34,10 @@ okText next = line (word "ok" ++ nexts (placeNumbers next))
 unfoldable pub refusalText : ℕ → Place → List ℕ
 refusalText n next = pick (eqb n 4) (refusedText n) (line (word "no" ++ nexts (n ∷ placeNumbers next)))
 
--- a byte says which of two programs is meant, and what is printed is that program's text: 0 is tile, 1 is frame; another is 4
+-- a byte says whose input is meant, and so which of two texts is printed: 0 tile's, 1 frame's; another is 4
 unfoldable pub chosenText : ℕ → List ℕ → List ℕ → List ℕ
 chosenText first tile frame = pick (eqb first 0) tile (pick (eqb first 1) frame (refusedText 4))
 
--- the first byte of an input says it, and the rest is that program's input; without a first byte it is 4
+-- it is the first byte, and the rest is that input, of which each text is made; no first byte is 4
 unfoldable pub eitherText : (List ℕ → List ℕ) → (List ℕ → List ℕ) → List ℕ → List ℕ
 eitherText tile frame s = pick (eqb (length s) 0) (refusedText 4) (chosenText (byteAt s 0) (tile (drop 1 s)) (frame (drop 1 s)))

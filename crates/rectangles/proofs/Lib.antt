@@ -1,4 +1,4 @@
 pub mod Rising
 pub mod Each
 pub mod Places
-pub mod Outcome
+pub mod Answers

@@ -41,12 +41,11 @@ start-rises xs (suc n) i h l =
 
 -- what a tile's rectangle asks of the starts around it
 pub record Steps (xs : List ℕ) (i : ℕ) : Type 0 where
-  pub here : getD xs i 0 ≤ 1024
   pub next : getD xs (i + 1) 0 ≤ 1024
   pub rises : getD xs i 0 ≤ getD xs (i + 1) 0
 
 pub steps : (xs : List ℕ) (n i : ℕ) → rising xs n ≡ true → i < n → Steps xs i
-steps xs n i h l = record { here = start-le xs n i h (omega arith); next = start-le xs n (i + 1) h (omega arith); rises = start-rises xs n i h l }
+steps xs n i h l = record { next = start-le xs n (i + 1) h (omega arith); rises = start-rises xs n i h l }
 
 -- a product of a start, or of a difference of two, and a side
 pub samples-lt : (a s : ℕ) → a ≤ 1024 → s ≤ 256 → a * s < 2 ^ 32
@@ -55,9 +54,7 @@ samples-lt a s h k = omega (arith, mul-le-mul h k)
 -- a layout that has rectangles
 pub record Described (t : TileInfo) (code : ℕ) : Type 0 where
   pub small-code : code ≤ 2
-  pub some-cols : 1 ≤ t .cols
   pub most-cols : t .cols ≤ 64
-  pub some-rows : 1 ≤ t .rows
   pub most-rows : t .rows ≤ 64
   pub across : rising (t .«col_start_sb») (t .cols) ≡ true
   pub down : rising (t .«row_start_sb») (t .rows) ≡ true
@@ -73,9 +70,7 @@ described t code h =
     let s = both (rising (t .«col_start_sb») (t .cols)) (rising (t .«row_start_sb») (t .rows)) (b .1) in
     record {
       small-code = leb-true code 2 (a .0);
-      some-cols = leb-true 1 (t .cols) (c .0);
       most-cols = leb-true (t .cols) 64 (c .1);
-      some-rows = leb-true 1 (t .rows) (r .0);
       most-rows = leb-true (t .rows) 64 (r .1);
       across = s .0;
       down = s .1;

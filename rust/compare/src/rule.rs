@@ -35,7 +35,9 @@ impl Rule {
             Self::PastEnd => "a place past the last bit counts as the end",
             Self::Domain => "an argument outside the domain: 4, no bit used",
             Self::WholeRecord => "refused with 2: the record given comes back whole",
-            Self::Rectangles => "the rectangles are document 01's, row by row, and not the Rust's",
+            Self::Rectangles => {
+                "the rectangles are document 01's, in the order of #104, and not the Rust's"
+            }
             Self::Short => "a lent buffer too short: 5, nothing changes",
             Self::TooMany => "more columns or rows than the limit: 6, the record given comes back",
         }

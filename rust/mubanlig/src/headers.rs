@@ -140,7 +140,7 @@ impl TileInfo {
         &self.row_start_sb[..=usize::from(self.rows).min(MAX_TILE_ROWS)]
     }
 
-    /// How many tiles there are: a buffer for [`tile_rectangles`](crate::tile_rectangles) has four numbers for each, row by row.
+    /// How many tiles there are: a buffer for [`tile_rectangles`](crate::tile_rectangles) has four numbers for each.
     #[must_use]
     pub fn tiles(&self) -> usize {
         usize::from(self.cols) * usize::from(self.rows)

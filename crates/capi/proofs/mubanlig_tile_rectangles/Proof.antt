@@ -10,7 +10,7 @@ use Rattle.answers.specs.declared.Answer.{Answer}
 use Rattle.answers.proofs.Numbers.{refused-unless-0}
 use Rattle.getbits.specs.Chain.{then}
 use Rattle.getbits.proofs.Chain.{taken, left}
-use Rattle.rectangles.proofs.Outcome.{kept}
+use Rattle.rectangles.proofs.Answers.{kept}
 use Rattle.flat.specs.Layout.{Buffers, buffers, layoutIn}
 use Rattle.capi.specs.Calls.{lentRectangles}
 use Rattle.capi.proofs.mubanlig_tile_rectangles.Statement.{statement}

@@ -11,7 +11,7 @@ use Rattle.answers.specs.Numbers.{numberOf, isRefusal}
 use Rattle.answers.specs.declared.Answer.{Answer}
 use Rattle.text.specs.Text.{word}
 use Rattle.text.proofs.Puts.{also, within}
-use Rattle.rectangles.proofs.Outcome.{accepted, refused, refuses}
+use Rattle.rectangles.proofs.Answers.{accepted, refused, refuses}
 use Rattle.rectangles.proofs.Places.{long}
 use Rattle.rectangles.proofs.Rising.{tiles-le}
 use Rattle.rectangles.specs.Rectangles.{hasRectangles, rectangleNumbers, rectangles}

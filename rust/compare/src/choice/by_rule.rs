@@ -1,4 +1,4 @@
-//! What document 01 alone decides: added limits, the domain, short buffers, rectangles.
+//! What document 01 alone decides, or a request: added limits, the domain, short buffers, rectangles.
 
 use crate::case::{Case, Outcome, Place};
 use crate::kind::Kind;
@@ -293,7 +293,7 @@ impl Adder<'_> {
                 self.case(Kind::TileRectangles, args);
             }
         }
-        // The largest closing entry, and one more.
+        // The largest closing entry, and one more. These cases draw no random numbers, so that those behind them stay.
         for starts in [9, 74] {
             for closing in [1024, 1025] {
                 for code in 0..3 {

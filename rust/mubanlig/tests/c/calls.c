@@ -950,8 +950,12 @@ static void random_turn(void)
     CHECK(limited(&given, &on_wall, answer, &r, layout_in(b, &r, LONG, a, &limit), limit));
 
     r = given;
-    answer = rectangles(&r, LONG, (uint8_t)below(3));
+    a.sb128 = (uint8_t)below(3);
+    answer = rectangles(&r, LONG, a.sb128);
     CHECK(answer <= 5 && keeps(&r, &given, MUBANLIG_ACCEPTED) == (answer != MUBANLIG_ACCEPTED));
+    if (answer == MUBANLIG_ACCEPTED) {
+        check_rectangles(&r, a.sb128);
+    }
 
     r = given;
     answer = header(b, &r, LONG, (uint8_t)below(2));
