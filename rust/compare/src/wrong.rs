@@ -1,4 +1,5 @@
-//! Wrong versions of the Rust and of the rules of a limit and of rectangles, one line each, and how many stored answers notice each of them.
+//! Wrong versions of the Rust and of the rules of a limit and of rectangles, one line each, and how many stored answers
+//! notice each of them.
 
 use crate::rebuild;
 use std::fmt::Write;

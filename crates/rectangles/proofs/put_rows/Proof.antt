@@ -2,16 +2,15 @@
 use mathlib.Core.List.{List, [], _∷_, _++_}
 use mathlib.Core.Path.{_≡_, refl, sym, ap, _∙_}
 use Prim.Native.Nat.{ℕ, _+_, _-_, _*_, _^_, _≤_, _<_}
-use native.Mathlib.Nat.{zero-add, mul-assoc, mul-add, mul-le-mul-left}
+use native.Mathlib.Nat.{zero-add, mul-assoc, mul-add, mul-le-mul, mul-le-mul-left}
 use native.Mathlib.Omega.{arith}
 use borrow.Author.Needs.{needs}
 use lib.Seq.{sets, sets-eq, length-sets}
 use lib.ListN.{length, drop}
 use Rattle.tile_layout.proofs.Lengths.{cols-length}
-use Rattle.rectangles.proofs.Rising.{Described, described, steps, samples-lt}
+use Rattle.rectangles.proofs.Rising.{Described, described, steps}
 use Rattle.rectangles.proofs.Each.{each-length, store-more}
-use Rattle.rectangles.proofs.Places.{long}
-use Rattle.rectangles.specs.Rectangles.{begins, reaches, each, rectangles}
+use Rattle.rectangles.specs.Rectangles.{rectangleNumbers, begins, reaches, each, rectangles}
 use Rattle.rectangles.proofs.put_rows.Statement.{statement}
 use Rattle.rectangles.proofs.put_rows.Tie as tie
 
@@ -73,8 +72,9 @@ mul-put-row-2 : tie.Need-mul-put-row-2 Inv-loop μ-loop
 mul-put-row-2 c =
     let l = c .before .before .before .before in
     let k = known (start l) in
-    let few = samples-lt (4 * start l .args .t .cols) (l .loop .row) (omega (arith, k .most-cols)) (omega (arith, c .before .before .before .loop-test .taken, k .most-rows)) in
-    let fit : 4 * start l .args .t .cols * l .loop .row < 2 ^ 64 = omega (arith, few) in
+    let cols : 4 * start l .args .t .cols ≤ 256 = omega (arith, k .most-cols) in
+    let rows : l .loop .row ≤ 64 = omega (arith, c .before .before .before .loop-test .taken, k .most-rows) in
+    let fit : 4 * start l .args .t .cols * l .loop .row < 2 ^ 64 = omega (arith, mul-le-mul cols rows) in
     record { fits = fit }
 
 slice-aggregate-put-row : tie.Need-slice-aggregate-put-row Inv-loop μ-loop
@@ -108,11 +108,13 @@ returns c =
     let l = c .before in
     let a = start l .args in
     let e : l .loop .row ≡ a .t .rows = omega arith in
+    let all = each (a .t .rows) (tiles l) in
+    let long : length all ≡ rectangleNumbers (a .t) = each-length (tiles l) (4 * a .t .cols) (tiles-long l) (a .t .rows) ∙ mul-assoc 4 (a .t .cols) (a .t .rows) in
     l .loop .inv .1
     ∙ ap (λ (n : ℕ). sets (a .out .now) 0 (each n (tiles l))) e
-    ∙ ap (λ (side : ℕ). sets (a .out .now) 0 (each (a .t .rows) (across (a .t .«col_start_sb») (a .t .«row_start_sb») side (a .t .cols)))) (l .before .side-of .ensures .0)
-    ∙ sets-eq (rectangles (a .t) (a .sb128)) (a .out .now) 0 (omega (arith, long (a .t) (a .sb128), start l .pre .1))
-    ∙ ap (λ (n : ℕ). rectangles (a .t) (a .sb128) ++ drop n (a .out .now)) (zero-add (length (rectangles (a .t) (a .sb128))) ∙ long (a .t) (a .sb128))
+    ∙ sets-eq all (a .out .now) 0 (omega (arith, long, start l .pre .1))
+    ∙ ap (λ (n : ℕ). all ++ drop n (a .out .now)) (zero-add (length all) ∙ long)
+    ∙ ap (λ (side : ℕ). each (a .t .rows) (across (a .t .«col_start_sb») (a .t .«row_start_sb») side (a .t .cols)) ++ drop (rectangleNumbers (a .t)) (a .out .now)) (l .before .side-of .ensures .0)
 
 pub put-rows-spec : {M : Type 1} → statement M
 put-rows-spec =
