@@ -30,7 +30,7 @@ extern "C" {
 #endif
 
 /* The number of this interface. A library of another one lacks the functions that have it in their names, and does not link. */
-#define MUBANLIG_INTERFACE 2
+#define MUBANLIG_INTERFACE 3
 
 /* The lengths that buffers must have, in elements. */
 #define MUBANLIG_INFO_BYTES 9       /* info: a layout without its starts */
@@ -240,11 +240,11 @@ enum mubanlig_fgd {
     MUBANLIG_FGD_BLOCK_SIZE = 185
 };
 
-/* The four answer 2. */
-uint32_t mubanlig_bits_interface_2(void);
-uint32_t mubanlig_interface_2(void);
-uint32_t mubanlig_within_interface_2(void);
-uint32_t mubanlig_grain_interface_2(void);
+/* The four answer MUBANLIG_INTERFACE. */
+uint32_t mubanlig_bits_interface_3(void);
+uint32_t mubanlig_interface_3(void);
+uint32_t mubanlig_within_interface_3(void);
+uint32_t mubanlig_grain_interface_3(void);
 
 /*
  * Readings, in libcapi_bits.a. Each answers its value. Data that runs out, or an argument outside the domain, sets the error; most then
@@ -312,11 +312,13 @@ uint32_t mubanlig_parse_tile_info_frmhdr(const uint8_t *s, size_t s_len, size_t 
 /*
  * Left, top, width and height of each tile in samples: the top row first, and left to right within a row, so that the numbers of the
  * tile in a column and a row, both counted from 0, begin at out[4 * (row * columns + column)]. Numbers behind the last tile stay. sb128
- * is the code that the starts are counted in. Answers 0, 4 or 5.
+ * is the code that the starts are counted in, w and h are the frame's width and height, 1 to 65536. Both ends of a tile are cut at the
+ * frame's edge: one behind the edge begins there and is 0 wide or high. The areas of the tiles of a layout read fresh for that code, width
+ * and height add up to w * h. Answers 0, 4 or 5.
  */
 uint32_t mubanlig_tile_rectangles(const uint8_t *info, size_t info_len,
     const uint16_t *col_start_sb, size_t col_start_sb_len, const uint16_t *row_start_sb, size_t row_start_sb_len,
-    uint8_t sb128, uint32_t *out, size_t out_len);
+    uint8_t sb128, int32_t w, int32_t h, uint32_t *out, size_t out_len);
 
 /*
  * Layouts within a limit, in libcapi_within.a. max_cols and max_rows are the most columns and rows that are taken: any numbers, as the

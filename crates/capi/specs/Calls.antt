@@ -33,10 +33,10 @@ lentHeader s position error strict hdr b =
     (answered (r .answer) (r .next) error, overFront 146 (flatSeqHdr (r .hdr)) hdr, putLayout (r .hdr .tiling .t) b))
     (tooShort position error, hdr, b)
 
--- tile_rectangles over the buffers of a layout
-unfoldable pub lentRectangles : Buffers → ℕ → List ℕ → ℕ × List ℕ
-lentRectangles b code out =
+-- tile_rectangles over the buffers of a layout, in a frame of w by h samples
+unfoldable pub lentRectangles : Buffers → ℕ → ℕ → ℕ → List ℕ → ℕ × List ℕ
+lentRectangles b code w h out =
     pick (hasRoom b)
-    (then (tileRectangles (layoutIn b) code out) λ r.
+    (then (tileRectangles (layoutIn b) code w h out) λ r.
     (numberOf (r .0), r .1))
     (numberOf ShortBuffer, out)

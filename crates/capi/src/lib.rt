@@ -9,7 +9,7 @@ ghost use Rattle.flat.specs.Layout.{buffers, hasRoom};
 ghost use Rattle.frame_hdr.specs.Frame.{FreshDemand3};
 ghost use Rattle.lent.specs.Lent.{placeOf};
 ghost use Rattle.tile_layout.specs.Demand3.{Demand3};
-ghost use Rattle.tile_layout.specs.Limits.{argsOf, inDomain};
+ghost use Rattle.tile_layout.specs.Limits.{argsOf, inDomain, unsigned};
 ghost use Rattle.lent_tiles.specs.Calls.{lentTileInfo, isKnown, frameGiven, seqGiven, lentFrame};
 ghost use Rattle.lent_tiles.specs.Left.{tilesLeft, frameLeft};
 ghost use Rattle.capi.specs.Calls.{lentSegInfo, lentHeader, lentRectangles};
@@ -38,11 +38,11 @@ use seq_hdr::parse_seq_hdr;
 use tile_info::parse_tile_info;
 
 // The number of the interface.
-const INTERFACE: u32 = 2;
+const INTERFACE: u32 = 3;
 
 #[no_mangle]
-pub extern "C" fn mubanlig_interface_2() -> u32
-    ensures { λ r. ⌜ r ≡ 2 ⌝ }
+pub extern "C" fn mubanlig_interface_3() -> u32
+    ensures { λ r. ⌜ r ≡ 3 ⌝ }
 {
     INTERFACE
 }
@@ -267,19 +267,18 @@ pub extern "C" fn mubanlig_tile_rectangles(
     col_start_sb: &[u16],
     row_start_sb: &[u16],
     sb128: u8,
+    w: i32,
+    h: i32,
     out: &mut [u32],
 ) -> u32
     ensures { λ r.
         let before = buffers (now (info .entry)) (now («col_start_sb» .entry)) (now («row_start_sb» .entry)) in
-        ⌜ (r, now (out .exit)) ≡ lentRectangles before sb128 (now (out .entry)) ⌝ }
+        ⌜ (r, now (out .exit)) ≡ lentRectangles before sb128 (unsigned w) (unsigned h) (now (out .entry)) ⌝ }
     ensures { λ r. ⌜ ((r ≡ 0 → ⊥) → now (out .exit) ≡ now (out .entry)) ⌝ }
 {
     if !has_room(info, col_start_sb, row_start_sb) {
         return 5;
     }
-    number(tile_rectangles(
-        tile_info_of(info, col_start_sb, row_start_sb),
-        sb128,
-        &mut *out,
-    ))
+    let t = tile_info_of(info, col_start_sb, row_start_sb);
+    number(tile_rectangles(t, sb128, w, h, &mut *out))
 }

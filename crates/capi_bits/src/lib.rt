@@ -30,11 +30,13 @@ use lent::position_of;
 use lent::put_place;
 
 // The number of the interface.
+const INTERFACE: u32 = 3;
+
 #[no_mangle]
-pub extern "C" fn mubanlig_bits_interface_2() -> u32
-    ensures { λ r. ⌜ r ≡ 2 ⌝ }
+pub extern "C" fn mubanlig_bits_interface_3() -> u32
+    ensures { λ r. ⌜ r ≡ 3 ⌝ }
 {
-    2
+    INTERFACE
 }
 
 // A reading is handed back: the place is stored, and the number is the answer.

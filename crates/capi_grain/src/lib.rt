@@ -14,11 +14,11 @@ use lent::put_place;
 use seq_fields::layout_of;
 
 // The number of the interface.
-const INTERFACE: u32 = 2;
+const INTERFACE: u32 = 3;
 
 #[no_mangle]
-pub extern "C" fn mubanlig_grain_interface_2() -> u32
-    ensures { λ r. ⌜ r ≡ 2 ⌝ }
+pub extern "C" fn mubanlig_grain_interface_3() -> u32
+    ensures { λ r. ⌜ r ≡ 3 ⌝ }
 {
     INTERFACE
 }

@@ -28,11 +28,11 @@ use tile_limit::frame_layout_within;
 use tile_limit::parse_tile_info_within;
 
 // The number of the interface.
-const INTERFACE: u32 = 2;
+const INTERFACE: u32 = 3;
 
 #[no_mangle]
-pub extern "C" fn mubanlig_within_interface_2() -> u32
-    ensures { λ r. ⌜ r ≡ 2 ⌝ }
+pub extern "C" fn mubanlig_within_interface_3() -> u32
+    ensures { λ r. ⌜ r ≡ 3 ⌝ }
 {
     INTERFACE
 }

@@ -1,24 +1,20 @@
 -- What holds of every answer of a reading: of a refusal, and of an accepted record, which has the lists that were read. Assumes nothing.
 use mathlib.Core.Bool.{Bool, true, false, not, _&&_, _||_}
 use mathlib.Core.List.{List}
-use mathlib.Core.Path.{_≡_, refl, subst}
+use mathlib.Core.Path.{_≡_, refl}
 use Prim.Native.Nat.{ℕ}
-use lib.Dec.{T}
 use Rattle.answers.specs.declared.Answer.the-variants.{Accepted}
 use Rattle.getbits.specs.Chain.{pick, then}
 use Rattle.getbits.specs.declared.Place.{Place}
-use Rattle.getbits.proofs.Chain.{picked}
+use Rattle.getbits.proofs.Chain.{contrary, picked}
 use Rattle.seq_fields.specs.declared.PixelLayout.{PixelLayout}
 use Rattle.film_grain.specs.Grain.{refusedGrain, oneListEmpty, grainFields, parseFilmGrainData}
 use Rattle.film_grain.specs.Points.{pointLists}
 use Rattle.film_grain.specs.declared.FilmGrainRead.{FilmGrainRead}
 use Rattle.film_grain.specs.declared.points.PointLists.{PointLists}
 
-pub contrary : {A : Type 0} → true ≡ false → A
-contrary e = absurd (subst T e tt)
-
 pub neither : (a b : Bool) → a || b ≡ false → (a ≡ false) × (b ≡ false)
-neither true b e = contrary e
+neither true b e = contrary refl e
 neither false b e = (refl, e)
 
 -- what holds of whatever a step gives holds behind it

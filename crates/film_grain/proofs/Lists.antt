@@ -14,7 +14,7 @@ use lib.Seq.{getD-set-same, getD-set-other}
 use Rattle.getbits.specs.Bits.{getBits}
 use Rattle.getbits.specs.Chain.{then, turns}
 use Rattle.getbits.specs.declared.Place.{Place}
-use Rattle.getbits.proofs.Chain.{picked}
+use Rattle.getbits.proofs.Chain.{contrary, picked}
 use Rattle.getbits.proofs.Places.{lt-or-le}
 use Rattle.seq_fields.specs.Fields.{getSmall}
 use Rattle.seq_fields.specs.declared.PixelLayout.{PixelLayout}
@@ -25,7 +25,7 @@ use Rattle.film_grain.specs.declared.FilmGrainRead.{FilmGrainRead}
 use Rattle.film_grain.specs.declared.PlanePoints.{PlanePoints}
 use Rattle.film_grain.specs.declared.points.PointLists.{PointLists}
 use Rattle.film_grain.specs.declared.points.PointsRead.{PointsRead}
-use Rattle.film_grain.proofs.Answers.{contrary, neither, AcceptedWith, of-answers}
+use Rattle.film_grain.proofs.Answers.{neither, AcceptedWith, of-answers}
 
 -- zeros
 zero-at : (k : ℕ) → _≡_ {A = ℕ} (getD (replicate 28 0) k 0) 0
@@ -105,12 +105,12 @@ a-point s index-bits scaling-bits n i r room k =
     let next = r .base + step .value in
     let value = getSmall s (step .next) scaling-bits in
     picked (Reads n (i + 1)) (r .refused) r _
-    (λ e f. contrary (sym e ∙ f))
+    (λ e f. contrary e f)
     (λ e.
     picked (Reads n (i + 1)) (ltb 255 next)
     (noPoints 0 true (step .next))
     (record { refused = false; «num_points» = r .«num_points»; base = next; list = added i next (value .value) (r .list); next = value .next })
-    (λ over f. contrary f)
+    (λ over f. contrary refl f)
     (λ under _. (k e .0, one-more i (r .base) next (value .value) (r .list) (k e .1) room (omega arith) (ltb-false 255 next under))))
 
 points : (s : List ℕ) (p : Place) (index-bits scaling-bits n i : ℕ) → i ≤ 14 → Reads n i (turns i (point s index-bits scaling-bits) (noPoints n false p))
@@ -143,7 +143,7 @@ unfolding planePoints then
 plane s p =
     let n = getSmall s p 4 in
     picked Good (ltb 14 (n .value)) _ _
-    (λ _ f. contrary f)
+    (λ _ f. contrary refl f)
     (λ under. picked Good (eqb (n .value) 0) _ _ (λ _ _. empty) (λ _. all-points _ _ _ _ _ (ltb-false 14 (n .value) under)))
 
 plane-if : (t : Bool) (s : List ℕ) (p : Place) → Good (pointsIf t s p)

@@ -17,7 +17,7 @@ use Rattle.getbits.proofs.Places.{lt-or-le}
 use Rattle.tile_layout.specs.Limits.{unsigned, isSize, inDomain}
 use Rattle.tile_layout.specs.declared.TileArgs.{TileArgs}
 use Rattle.tile_layout.specs.declared.TileInfo.{TileInfo}
-use Rattle.tile_layout.proofs.Domain.{Pair, in-domain}
+use Rattle.tile_layout.proofs.Domain.{Pair, sized, in-domain}
 use Rattle.superblocks.specs.Counts.{multiplierOf}
 use Rattle.frame_hdr.specs.Frame.{startsLow, usableTiles, isOff, usable, inFrameDomain, frameCode, frameArgs, reuseAllowed, notReused}
 use Rattle.frame_hdr.specs.declared.FrameType.{FrameType}
@@ -56,11 +56,6 @@ usable-tiles tiles log2 starts e =
 pub record Tiled (t : TileInfo) : Type 0 where
   pub cols : usableTiles (t .cols) (t .«log2_cols») (t .«col_start_sb») ≡ true
   pub rows : usableTiles (t .rows) (t .«log2_rows») (t .«row_start_sb») ≡ true
-
-sized : (n : ℕ) → isSize n ≡ true → (1 ≤ n) × (n ≤ 65536)
-sized n e =
-    let b = both (leb 1 n) (leb n 65536) e in
-    (leb-true 1 n (b .0), leb-true n 65536 (b .1))
 
 pub record Usable (q : SeqLayout) : Type 0 where
   pub code : q .sb128 ≤ 2

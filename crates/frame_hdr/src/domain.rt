@@ -6,8 +6,8 @@ ghost use Rattle.frame_hdr.specs.Frame.{startsLow, usableTiles, isOff, u
 use super::FrameHeader;
 use super::SeqLayout;
 use seq_fields::AdaptiveBoolean;
-use superblocks::is_size;
 use tile_layout::TileInfo;
+use tile_layout::is_size;
 use tile_layout::not_below_0;
 use tile_layout::start_at;
 

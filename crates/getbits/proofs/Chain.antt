@@ -2,7 +2,7 @@
 -- A proof that r is such a definition's value is  sym (through _ _ e₀ ∙ left _ _ _ e₁ ∙ ..)  with the code's facts e₀, e₁, .. in order.
 use Prim.Native.Nat.{ℕ, _+_}
 use native.Mathlib.Numerals.{add-one}
-use mathlib.Core.Path.{_≡_, refl, ap, sym, subst}
+use mathlib.Core.Path.{_≡_, refl, ap, sym, subst, _∙_}
 use mathlib.Core.Bool.{Bool, true, false, _&&_}
 use lib.Dec.{T}
 use Rattle.getbits.specs.Chain.{pick, then, turns}
@@ -17,10 +17,14 @@ taken t a b e = rw e
 pub left : {A : Type 0} (t : Bool) (a b : A) → t ≡ false → pick t a b ≡ b
 left t a b e = rw e
 
+-- a test that holds and does not
+pub contrary : {A : Type 0} {a : Bool} → a ≡ true → a ≡ false → A
+contrary h k = absurd (subst T (sym h ∙ k) tt)
+
 -- two tests that both hold
 pub both : (a b : Bool) → a && b ≡ true → (a ≡ true) × (b ≡ true)
 both true b h = (refl, h)
-both false b h = absurd (subst T (sym h) tt)
+both false b h = contrary h refl
 
 -- what holds of both answers holds of the one picked
 pub picked : {A : Type 0} (P : A → Type 0) (t : Bool) (a b : A) → (t ≡ true → P a) → (t ≡ false → P b) → P (pick t a b)

@@ -1,9 +1,8 @@
 -- What a call hands back, put together from the facts of its steps. Assumes nothing.
 use mathlib.Core.Bool.{Bool, true, false, _&&_}
 use mathlib.Core.List.{[], _∷_}
-use mathlib.Core.Path.{_≡_, refl, sym, subst, _∙_}
+use mathlib.Core.Path.{_≡_, refl}
 use Prim.Native.Nat.{ℕ}
-use lib.Dec.{T}
 use Rattle.answers.specs.Numbers.{numberOf}
 use Rattle.answers.specs.declared.Answer.{Answer}
 use Rattle.getbits.specs.declared.Place.{Place}
@@ -30,6 +29,3 @@ second-fails false b h = refl
 
 pub both-hold : (a b : Bool) → a ≡ true → b ≡ true → a && b ≡ true
 both-hold a b h k = rw (h, k)
-
-pub contrary : {A : Type 0} {a : Bool} → a ≡ true → a ≡ false → A
-contrary h k = absurd (subst T (sym h ∙ k) tt)

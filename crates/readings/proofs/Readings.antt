@@ -18,6 +18,9 @@ use Rattle.seq_residual.specs.Residual.{readTransform, readEntropy, signedIf, w
 use Rattle.seq_residual.specs.Filters.{readRestoration, readFilters}
 use Rattle.seq_hdr.specs.Tiling.{tileInfoIf, readTiling}
 use Rattle.seq_hdr.specs.Header.{readStart, refusedHeader, checkTrailingBits, readGroups, readHead, parseSeqHdr}
+use Rattle.superblocks.specs.Counts.{multiplierOf, fitsUniform}
+use Rattle.frame_hdr.specs.Frame.{startsLow, usableTiles, usable, inFrameDomain, frameCode, reuseAllowed, askReuse, readReuse, reusedStarts, reusedInfo, parseTileInfoFrmhdr}
+use Rattle.rectangles.specs.Rectangles.{rising, hasRectangles, each, rectangles, tileRectangles}
 use Rattle.readings.specs.Readings.{Row, answerTo, Holds, table, EveryRowHolds}
 
 -- every row of a list holds
@@ -35,13 +38,15 @@ unfolding Every answerTo table leadingZeros then turns bitsAt position readBits 
     readPartition segInfoIf readSegmentation readIntra readBlocks readMotion readRefFrames
     countIf readDrl readTip readMv readScreen readInter readTransform readEntropy signedIf wrappedIf readQuant readResidual
     readRestoration readFilters tileInfoIf readTiling readStart refusedHeader checkTrailingBits readGroups readHead parseSeqHdr
-computed = (refl, (refl, (refl, (refl, (refl, (refl, (refl, (refl, (refl, (refl, (refl, (refl, (refl, (refl, (refl, tt)))))))))))))))
+    multiplierOf fitsUniform startsLow usableTiles usable inFrameDomain frameCode reuseAllowed askReuse readReuse reusedStarts reusedInfo parseTileInfoFrmhdr
+    rising hasRectangles each rectangles tileRectangles
+computed = (refl, (refl, (refl, (refl, (refl, (refl, (refl, (refl, (refl, (refl, (refl, (refl, (refl, (refl, (refl, (refl, (refl, tt)))))))))))))))))
 
 -- a row that is in the list is one of them
-each : (l : List Row) → Every l → (r : Row) → List·Memᴰ r l → Holds r
+among : (l : List Row) → Every l → (r : Row) → List·Memᴰ r l → Holds r
 unfolding Every
-each (x ∷ l) (e, es) r (List·Memᴰ·head q) = cc
-each (x ∷ l) (e, es) r (List·Memᴰ·tail m) = each l es r m
+among (x ∷ l) (e, es) r (List·Memᴰ·head q) = cc
+among (x ∷ l) (e, es) r (List·Memᴰ·tail m) = among l es r m
 
 pub every-row-holds : EveryRowHolds
-every-row-holds = each table computed
+every-row-holds = among table computed

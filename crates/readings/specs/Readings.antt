@@ -1,26 +1,38 @@
--- The readings marked (P) in document 01, "Readings to check": a row for each, in its order, and one claim over all rows.
+-- The readings marked (P) in document 01, "Readings to check", in its order, and those of the requests behind them: a row for each, and one claim over all
+-- rows.
 use mathlib.Core.Path.{_≡_}
 use mathlib.Core.Bool.{Bool, true, false}
 use mathlib.Core.List.{List, [], _∷_, _++_, List·Memᴰ}
 use Prim.Native.Nat.{ℕ, _+_}
 use lib.IntN.{ℤ, pos}
-use lib.ListN.{take}
+use lib.ListN.{take, replicate}
 use Rattle.answers.specs.Numbers.{numberOf, isRefusal}
+use Rattle.answers.specs.declared.Answer.{Answer}
 use Rattle.getbits.specs.Bits.{position, placeAt}
-use Rattle.getbits.specs.Chain.{pick}
+use Rattle.getbits.specs.Chain.{pick, then}
 use Rattle.tile_layout.specs.declared.TileArgs.{TileArgs}
+use Rattle.tile_layout.specs.declared.TileInfo.{TileInfo}
 use Rattle.tile_layout.specs.declared.TileRead.{TileRead}
 use Rattle.tile_layout.specs.Limits.{noTileInfo, argsOf}
 use Rattle.tile_layout.specs.Layout.{tabulate, parseTileInfo}
+use Rattle.seq_fields.specs.declared.AdaptiveBoolean.the-variants.{On}
 use Rattle.seq_fields.specs.declared.PixelLayout.{PixelLayout}
 use Rattle.seq_fields.specs.declared.PixelLayout.the-variants.{I400}
 use Rattle.seq_hdr.specs.declared.SeqRead.{SeqRead}
 use Rattle.seq_hdr.specs.Header.{parseSeqHdr}
+use Rattle.frame_hdr.specs.Frame.{parseTileInfoFrmhdr}
+use Rattle.frame_hdr.specs.declared.FrameRead.{FrameRead}
+use Rattle.frame_hdr.specs.declared.FrameType.the-variants.{Inter}
+use Rattle.frame_hdr.specs.declared.SeqLayout.{SeqLayout}
+use Rattle.rectangles.specs.Rectangles.{rectangleNumbers, tileRectangles}
 
--- what is read: bytes as a layout for these arguments, or bytes as a sequence header
+-- what is read: bytes as a layout for these arguments, or bytes as a sequence header; the rectangles of such a layout, in its own frame or in another that
+-- reuses it
 pub data Question : Type 0 where
   layout : TileArgs → List ℕ → Question
   header : (strict : Bool) → List ℕ → Question
+  rectanglesOf : TileArgs → List ℕ → Question
+  rectanglesReused : (width height : ℕ) → TileArgs → List ℕ → Question
 
 -- an accepted layout: what the tile program prints, in its order, and the columns' logarithm;
 -- document 01 names a part of it in each row
@@ -35,11 +47,12 @@ pub record Tiles : Type 0 where
   pub rowStarts : List ℕ
   pub log2Cols : ℕ
 
--- what comes of it: a refusal by its number, an accepted layout, or an accepted header's largest frame and sample layout
+-- what comes of it: a refusal by its number, an accepted layout, an accepted header's largest frame and sample layout, or rectangles
 pub data Result : Type 0 where
   refusedWith : ℕ → Result
   tiles : Tiles → Result
   picture : (width height : ℤ) → PixelLayout → Result
+  numbers : List ℕ → Result
 
 -- the result of a layout read from the bytes s
 abbrev pub layoutResult : List ℕ → TileRead → Result
@@ -62,17 +75,47 @@ headerResult r =
     pick (isRefusal (r .answer)) (refusedWith (numberOf (r .answer)))
     (picture (r .hdr .picture .size .«max_width») (r .hdr .picture .size .«max_height») (r .hdr .format .layout))
 
--- what parse_tile_info, over the zero layout, and parse_seq_hdr are proved to answer, each from the first bit
-unfoldable pub answerTo : Question → Result
-answerTo (layout a s) = layoutResult s (parseTileInfo s (placeAt 0 false) noTileInfo a)
-answerTo (header strict s) = headerResult (parseSeqHdr s (placeAt 0 false) strict)
+-- the result of the rectangles of a layout read, in a frame of w by h samples, put into a buffer of zeros with room for just them
+abbrev pub rectanglesResult : Answer → TileInfo → (code w h : ℕ) → Result
+rectanglesResult z t code w h =
+    pick (isRefusal z) (refusedWith (numberOf z)) (
+    then (tileRectangles t code w h (replicate (rectangleNumbers t) 0)) λ r.
+    pick (isRefusal (r .0)) (refusedWith (numberOf (r .0))) (numbers (r .1)))
 
--- a reading: what is read, and what document 01 says comes of it
+-- the layout read from s, over the zero layout
+abbrev pub layoutFrom : TileArgs → List ℕ → TileRead
+layoutFrom a s = parseTileInfo s (placeAt 0 false) noTileInfo a
+
+-- a sequence with that layout, which its frames reuse without a bit
+abbrev pub sequenceWith : TileArgs → List ℕ → SeqLayout
+sequenceWith a s =
+    record {
+      sb128 = a .«seq_code»;
+      «max_width» = pos (a .width);
+      «max_height» = pos (a .height);
+      level = a .level;
+      tier = a .tier;
+      present = On;
+      t = layoutFrom a s .info;
+    }
+
+-- an inter frame of w by h samples, over the zero layout and without data
+abbrev pub frameIn : SeqLayout → ℕ → ℕ → FrameRead
+frameIn q w h = parseTileInfoFrmhdr [] (placeAt 0 false) (record { «frame_type» = Inter; width = pos w; height = pos h; sb128 = 0; tiling = noTileInfo }) q
+
+-- what parse_tile_info, parse_seq_hdr and parse_tile_info_frmhdr are proved to answer, each from the first bit, and tile_rectangles of a layout
+unfoldable pub answerTo : Question → Result
+answerTo (layout a s) = layoutResult s (layoutFrom a s)
+answerTo (header strict s) = headerResult (parseSeqHdr s (placeAt 0 false) strict)
+answerTo (rectanglesOf a s) = then (layoutFrom a s) λ r. rectanglesResult (r .answer) (r .info) (a .«frame_code») (a .width) (a .height)
+answerTo (rectanglesReused w h a s) = then (frameIn (sequenceWith a s) w h) λ r. rectanglesResult (r .answer) (r .hdr .tiling) (r .hdr .sb128) w h
+
+-- a reading: what is read, and what document 01 or the request says comes of it
 pub record Row : Type 0 where
   pub question : Question
   pub result : Result
 
--- a row holds: what is answered is what document 01 says
+-- a row holds: what is answered is what is said
 abbrev pub Holds : Row → Type 0
 Holds r = answerTo (r .question) ≡ r .result
 
@@ -108,7 +151,7 @@ frameOfPair12 w h = argsOf (pos 2) 1 2 (pos w) (pos h) 0 0
 abbrev pub headerStart : List ℕ
 headerStart = 0x82 ∷ 0x05 ∷ 0x00 ∷ 0x00 ∷ 0x00 ∷ 0x80 ∷ 0x10 ∷ []
 
--- the table; above each row stands document 01's line
+-- the table; above each row stands document 01's line, or the request's
 unfoldable pub table : List Row
 table =
     -- (P) The listing above: input FF 00 7F 00 00 00 00 00 28, which asks for 256 by 128 and has the tiling bits 28;
@@ -146,6 +189,11 @@ table =
     -- (P) Empty header: 1.
     ∷ header true [] gives refusedWith 1
     ∷ header false [] gives refusedWith 1
+    -- #105: the 330 picture's last tile, starting at 256, is 74 wide.
+    ∷ rectanglesOf (frame 330 64) (0xE0 ∷ [])
+    gives numbers (0 ∷ 0 ∷ 128 ∷ 64 ∷ 128 ∷ 0 ∷ 64 ∷ 64 ∷ 192 ∷ 0 ∷ 64 ∷ 64 ∷ 256 ∷ 0 ∷ 74 ∷ 64 ∷ [])
+    -- A reused layout may then have a tile of width 0: that of a sequence 256 wide with the starts 0 2 4, in a frame 128 wide.
+    ∷ rectanglesReused 128 64 (frame 256 64) (0xC0 ∷ []) gives numbers (0 ∷ 0 ∷ 128 ∷ 64 ∷ 128 ∷ 0 ∷ 0 ∷ 64 ∷ [])
     ∷ []
 
 -- the claim: every row of the table holds

@@ -22,25 +22,25 @@ kept-by true true xs out h = absurd (subst T (sym h) tt)
 kept-by true false xs out h = refl
 kept-by false room xs out h = refl
 
-module _ (t : TileInfo) (code : ℕ) (out : List ℕ) where
-  pub kept : isRefusal (tileRectangles t code out .0) ≡ true → tileRectangles t code out .1 ≡ out
+module _ (t : TileInfo) (code w h : ℕ) (out : List ℕ) where
+  pub kept : isRefusal (tileRectangles t code w h out .0) ≡ true → tileRectangles t code w h out .1 ≡ out
   unfolding tileRectangles
-  kept = kept-by (hasRectangles t code) (leb (rectangleNumbers t) (length out)) (rectangles t code ++ drop (rectangleNumbers t) out) out
+  kept = kept-by (hasRectangles t code w h) (leb (rectangleNumbers t) (length out)) (rectangles t code w h ++ drop (rectangleNumbers t) out) out
 
   -- a layout with rectangles, and a buffer with room for those of every layout
-  pub accepted : 16384 ≤ length out → hasRectangles t code ≡ true → tileRectangles t code out ≡ (Accepted, rectangles t code ++ drop (rectangleNumbers t) out)
+  pub accepted : 16384 ≤ length out → hasRectangles t code w h ≡ true → tileRectangles t code w h out ≡ (Accepted, rectangles t code w h ++ drop (rectangleNumbers t) out)
   unfolding tileRectangles
-  accepted l h = taken _ _ _ h ∙ taken _ _ _ (le-leb (rectangleNumbers t) (length out) (omega (arith, l, tiles-le t code h)))
+  accepted l e = taken _ _ _ e ∙ taken _ _ _ (le-leb (rectangleNumbers t) (length out) (omega (arith, l, tiles-le t code w h e)))
 
   -- a layout without
-  pub refused : hasRectangles t code ≡ false → tileRectangles t code out ≡ (WrongArguments, out)
+  pub refused : hasRectangles t code w h ≡ false → tileRectangles t code w h out ≡ (WrongArguments, out)
   unfolding tileRectangles
-  refused h = left _ _ _ h
+  refused e = left _ _ _ e
 
-  decided : 16384 ≤ length out → (has : Bool) → hasRectangles t code ≡ has → isRefusal (tileRectangles t code out .0) ≡ not has
-  decided l true h = rw (accepted l h) refl
-  decided l false h = rw (refused h) refl
+  decided : 16384 ≤ length out → (has : Bool) → hasRectangles t code w h ≡ has → isRefusal (tileRectangles t code w h out .0) ≡ not has
+  decided l true e = rw (accepted l e) refl
+  decided l false e = rw (refused e) refl
 
   -- with such room it is refused exactly where the layout has no rectangles
-  pub refuses : 16384 ≤ length out → isRefusal (tileRectangles t code out .0) ≡ not (hasRectangles t code)
-  refuses l = decided l (hasRectangles t code) refl
+  pub refuses : 16384 ≤ length out → isRefusal (tileRectangles t code w h out .0) ≡ not (hasRectangles t code w h)
+  refuses l = decided l (hasRectangles t code w h) refl

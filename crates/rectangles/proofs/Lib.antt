@@ -2,3 +2,5 @@ pub mod Rising
 pub mod Each
 pub mod Places
 pub mod Answers
+pub mod Lines
+pub mod Covering

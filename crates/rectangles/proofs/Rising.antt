@@ -1,17 +1,18 @@
 -- What is known of starts that never fall. Assumes nothing.
-use mathlib.Core.Path.{_≡_}
+use mathlib.Core.Path.{_≡_, refl, ap}
 use mathlib.Core.Bool.{Bool, true, _&&_}
 use mathlib.Core.List.{List}
 use mathlib.Core.Logic.{⊎-elim}
-use Prim.Native.Nat.{ℕ, zero, suc, _+_, _*_, _^_, _≤_, _<_}
-use native.Mathlib.Nat.{mul-le-mul}
+use Prim.Native.Nat.{ℕ, zero, suc, _+_, _*_, _^_, min, _≤_, _<_}
+use native.Mathlib.Nat.{mul-le-mul, mul-le-mul-right}
 use native.Mathlib.Numerals.{add-one}
 use native.Mathlib.Omega.{arith}
-use borrow.Author.Tests.{leb-true}
+use borrow.Author.Tests.{leb-true, le-leb}
 use lib.Dec.{leb}
 use lib.ListN.{getD}
 use Rattle.getbits.proofs.Chain.{both}
 use Rattle.getbits.proofs.Places.{lt-or-le}
+use Rattle.tile_layout.specs.Limits.{isSize}
 use Rattle.tile_layout.specs.declared.TileInfo.{TileInfo}
 use Rattle.rectangles.specs.Rectangles.{rising, isCount, hasRectangles}
 
@@ -39,6 +40,17 @@ start-rises xs (suc n) i h l =
     (λ k. let e : i ≡ n = omega arith in rw (e, add-one n) (leb-true (getD xs n 0) (getD xs (suc n) 0) (both (leb (getD xs n 0) (getD xs (suc n) 0)) (leb (getD xs (suc n) 0) 1024) (w .1) .0)))
     (lt-or-le i n)
 
+-- and the other way
+pub never-fall : (xs : List ℕ) (n : ℕ) → ((i : ℕ) → i < n → getD xs i 0 ≤ getD xs (i + 1) 0) → ((i : ℕ) → i ≤ n → getD xs i 0 ≤ 1024) → rising xs n ≡ true
+unfolding rising
+never-fall xs zero up low = le-leb (getD xs 0 0) 1024 (low 0 (omega arith))
+never-fall xs (suc n) up low =
+    rw (
+    never-fall xs n (λ i h. up i (omega arith)) (λ i h. low i (omega arith)),
+    le-leb (getD xs n 0) (getD xs (suc n) 0) (omega (arith, up n (omega arith), ap (λ (i : ℕ). getD xs i 0) (add-one n))),
+    le-leb (getD xs (suc n) 0) 1024 (low (suc n) (omega arith)))
+    refl
+
 -- what a tile's rectangle asks of the starts around it
 pub record Steps (xs : List ℕ) (i : ℕ) : Type 0 where
   pub next : getD xs (i + 1) 0 ≤ 1024
@@ -47,9 +59,13 @@ pub record Steps (xs : List ℕ) (i : ℕ) : Type 0 where
 pub steps : (xs : List ℕ) (n i : ℕ) → rising xs n ≡ true → i < n → Steps xs i
 steps xs n i h l = record { next = start-le xs n (i + 1) h (omega arith); rises = start-rises xs n i h l }
 
--- a product of a start, or of a difference of two, and a side
+-- a start in samples
 pub samples-lt : (a s : ℕ) → a ≤ 1024 → s ≤ 256 → a * s < 2 ^ 32
 samples-lt a s h k = omega (arith, mul-le-mul h k)
+
+-- a start that is no smaller stands no further left, cut at the frame's edge
+pub edge-le : (a b side most : ℕ) → a ≤ b → min (a * side) most ≤ min (b * side) most
+edge-le a b side most h = omega (arith, mul-le-mul-right {m = a} {n = b} side h)
 
 -- a layout that has rectangles
 pub record Described (t : TileInfo) (code : ℕ) : Type 0 where
@@ -59,23 +75,21 @@ pub record Described (t : TileInfo) (code : ℕ) : Type 0 where
   pub across : rising (t .«col_start_sb») (t .cols) ≡ true
   pub down : rising (t .«row_start_sb») (t .rows) ≡ true
 
-pub described : (t : TileInfo) (code : ℕ) → hasRectangles t code ≡ true → Described t code
+pub described : (t : TileInfo) (code w h : ℕ) → hasRectangles t code w h ≡ true → Described t code
 unfolding hasRectangles
-described t code h =
-    let a = both (leb code 2) ((isCount (t .cols) && isCount (t .rows)) && (rising (t .«col_start_sb») (t .cols) && rising (t .«row_start_sb») (t .rows))) h in
-    let b = both (isCount (t .cols) && isCount (t .rows)) (rising (t .«col_start_sb») (t .cols) && rising (t .«row_start_sb») (t .rows)) (a .1) in
-    let n = both (isCount (t .cols)) (isCount (t .rows)) (b .0) in
-    let c = both (leb 1 (t .cols)) (leb (t .cols) 64) (n .0) in
-    let r = both (leb 1 (t .rows)) (leb (t .rows) 64) (n .1) in
-    let s = both (rising (t .«col_start_sb») (t .cols)) (rising (t .«row_start_sb») (t .rows)) (b .1) in
+described t code w h e =
+    let coded = both _ (leb code 2) (both _ (isSize w) (both _ (isSize h) e .0) .0) in
+    let down = both _ (rising (t .«row_start_sb») (t .rows)) (coded .0) in
+    let across = both _ (rising (t .«col_start_sb») (t .cols)) (down .0) in
+    let counts = both (isCount (t .cols)) (isCount (t .rows)) (across .0) in
     record {
-      small-code = leb-true code 2 (a .0);
-      most-cols = leb-true (t .cols) 64 (c .1);
-      most-rows = leb-true (t .rows) 64 (r .1);
-      across = s .0;
-      down = s .1;
+      small-code = leb-true code 2 (coded .1);
+      most-cols = leb-true (t .cols) 64 (both (leb 1 (t .cols)) (leb (t .cols) 64) (counts .0) .1);
+      most-rows = leb-true (t .rows) 64 (both (leb 1 (t .rows)) (leb (t .rows) 64) (counts .1) .1);
+      across = across .1;
+      down = down .1;
     }
 
 -- 64 columns of 64 rows
-pub tiles-le : (t : TileInfo) (code : ℕ) → hasRectangles t code ≡ true → t .cols * t .rows ≤ 4096
-tiles-le t code h = let d = described t code h in mul-le-mul (d .most-cols) (d .most-rows)
+pub tiles-le : (t : TileInfo) (code w h : ℕ) → hasRectangles t code w h ≡ true → t .cols * t .rows ≤ 4096
+tiles-le t code w h e = let d = described t code w h e in mul-le-mul (d .most-cols) (d .most-rows)

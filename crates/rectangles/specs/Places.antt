@@ -10,11 +10,11 @@ abbrev pub place : TileInfo → ℕ → ℕ → ℕ
 place t col row = row * t .cols + col
 
 -- what holds of the rectangles of every layout
-pub record Places (t : TileInfo) (code : ℕ) : Type 0 where
+pub record Places (t : TileInfo) (code w h : ℕ) : Type 0 where
   -- they are four numbers a tile
-  pub long : length (rectangles t code) ≡ rectangleNumbers t
+  pub long : length (rectangles t code w h) ≡ rectangleNumbers t
   -- at a tile's place stand its left, top, width and height
-  pub stands : (col row : ℕ) → col < t .cols → row < t .rows → take 4 (drop (4 * place t col row) (rectangles t code)) ≡ rectangle t code col row
+  pub stands : (col row : ℕ) → col < t .cols → row < t .rows → take 4 (drop (4 * place t col row) (rectangles t code w h)) ≡ rectangle t code w h col row
   -- each tile has one place, below the number of tiles, and no two have the same
   pub within : (col row : ℕ) → col < t .cols → row < t .rows → place t col row < t .cols * t .rows
   pub once : (col row col' row' : ℕ) → col < t .cols → row < t .rows → col' < t .cols → row' < t .rows

@@ -1,4 +1,4 @@
--- Two rows of three tiles, the empty input and a first byte of 2, computed. Assumes nothing.
+-- Two rows of three tiles, a picture with a last tile that is cut, the empty input and a first byte of 2, computed. Assumes nothing.
 use lib.Count.{leadingZeros}
 use mathlib.Core.List.{[], _∷_}
 use mathlib.Core.Path.{_≡_, refl}
@@ -6,6 +6,7 @@ use Rattle.getbits.specs.Chain.{then, turns}
 use Rattle.getbits.specs.Bits.{bitsAt, position, readBits, getBit, getBits, getFlag}
 use Rattle.codes.specs.Codes.{runOf, getUniform}
 use Rattle.tile_layout.specs.Limits.{inDomain, superblocks, widthLimit, areaLimit, doublings, minLog2Cols, maxLog2Cols, maxLog2Rows, minLog2Tiles}
+use Rattle.tile_layout.specs.Layout.{fullCount, base, count, larger, startAt, readLog2, uniformInfo, uniformLayout}
 use Rattle.tile_layout.specs.Layout.{tabulate, readSizes, sum, widest, startsFrom, rowArea, rowLimit, readCols, readRows, nonUniformInfo, nonUniformLayout, parseTileInfo}
 use Rattle.superblocks.specs.Counts.{multiplierOf}
 use Rattle.text.specs.Text.{word, decimal, decimalIn, nexts, row}
@@ -23,6 +24,16 @@ unfolding leadingZeros then turns bitsAt position readBits getBit getBits getFla
     tabulate readSizes sum widest startsFrom rowArea rowLimit readCols readRows nonUniformInfo nonUniformLayout parseTileInfo multiplierOf
     word decimal decimalIn nexts row tileRequest rising hasRectangles each rectanglesText readText tileRectsText chosenText eitherText rectsText
 two-rows = refl
+
+-- 330 by 64, uniform: columns 0 2 3 4 6
+cut :
+    rectsText (0 ∷ 0x49 ∷ 0x01 ∷ 0x3F ∷ 0 ∷ 0 ∷ 0 ∷ 0 ∷ 0 ∷ 0xE0 ∷ [])
+    ≡ word "ok 4\n0 0 128 64\n128 0 64 64\n192 0 64 64\n256 0 74 64\n"
+unfolding leadingZeros then turns bitsAt position readBits getBit getBits getFlag runOf
+    inDomain superblocks widthLimit areaLimit doublings minLog2Cols maxLog2Cols maxLog2Rows minLog2Tiles
+    tabulate fullCount base count larger startAt readLog2 uniformInfo uniformLayout parseTileInfo multiplierOf
+    word decimal decimalIn nexts row tileRequest rising hasRectangles each rectanglesText readText tileRectsText chosenText eitherText rectsText
+cut = refl
 
 nothing : rectsText [] ≡ word "no 4\n"
 unfolding word decimal decimalIn nexts refusedText eitherText rectsText

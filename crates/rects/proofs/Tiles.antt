@@ -29,8 +29,8 @@ front : (xs ys : List ℕ) (i : ℕ) → i + 4 ≤ length xs → take 4 (drop i 
 front xs ys i h = ap (take 4) (drop-append-le i xs ys (omega arith)) ∙ take-append-le 4 (drop i xs) ys (omega (arith, length-drop i xs))
 
 -- a line for each four of the rectangles' numbers
-pub lines-of : (t : TileInfo) (code : ℕ) (behind numbers : List ℕ) → numbers ≡ rectangles t code ++ behind
-    → each (t .cols * t .rows) (λ k. line (row (take 4 (drop (4 * k) numbers)))) ≡ each (t .rows) (λ y. each (t .cols) (λ x. line (row (rectangle t code x y))))
-lines-of t code behind numbers e =
-    each-same _ _ (t .cols * t .rows) (λ k h. ap (λ (xs : List ℕ). line (row xs)) (ap (λ (xs : List ℕ). take 4 (drop (4 * k) xs)) e ∙ front (rectangles t code) behind (4 * k) (omega (arith, h, long t code))))
-    ∙ in-places t code (λ xs. line (row xs))
+pub lines-of : (t : TileInfo) (code w h : ℕ) (behind numbers : List ℕ) → numbers ≡ rectangles t code w h ++ behind
+    → each (t .cols * t .rows) (λ k. line (row (take 4 (drop (4 * k) numbers)))) ≡ each (t .rows) (λ y. each (t .cols) (λ x. line (row (rectangle t code w h x y))))
+lines-of t code w h behind numbers e =
+    each-same _ _ (t .cols * t .rows) (λ k l. ap (λ (xs : List ℕ). line (row xs)) (ap (λ (xs : List ℕ). take 4 (drop (4 * k) xs)) e ∙ front (rectangles t code w h) behind (4 * k) (omega (arith, l, long t code w h))))
+    ∙ in-places t code w h (λ xs. line (row xs))

@@ -1,4 +1,4 @@
-// Reads a byte, 0 or 1, and the input of tile or of frame from standard input, and prints the rectangles of the layout's tiles, row by row.
+// Reads a byte, 0 or 1, and the input of tile or of frame, and prints the rectangles of the layout's tiles, row by row, cut at the frame's edge.
 ghost use mathlib.Core.Path.{_≡_};
 ghost use Prim.Native.Nat.{_+_, _*_, _≤_};
 ghost use lib.ListN.{length, take, drop};
@@ -6,6 +6,7 @@ ghost use Rattle.io.specs.Counts.{Counts};
 ghost use Rattle.program.specs.Output.{chosenText};
 ghost use Rattle.rectangles.specs.Rectangles.{each};
 ghost use Rattle.text.specs.Text.{Put, row, line};
+ghost use Rattle.tile_layout.specs.Limits.{unsigned};
 ghost use Rattle.rects.specs.Print.{rectanglesText, readText, tileRectsText, frameRectsText, rectsText};
 use answers::Answer;
 use answers::is_refusal;
@@ -20,6 +21,7 @@ use rectangles::tile_rectangles;
 use text::put_line;
 use text::put_number;
 use tile_layout::TileInfo;
+use tile_request::samples;
 use tile_request::tile_request;
 
 fn u32_to_u64(x: u32) -> u64
@@ -57,11 +59,11 @@ fn put_tiles(out: &mut [u8], at: usize, xs: &[u32], n: usize) -> usize
     next
 }
 
-fn put_rectangles(out: &mut [u8], t: TileInfo, sb128: u8) -> usize
-    ensures { λ r. ⌜ Put 344088 (now (out .entry)) 0 (rectanglesText t «sb128») (now (out .exit)) r ⌝ }
+fn put_rectangles(out: &mut [u8], t: TileInfo, sb128: u8, w: i32, h: i32) -> usize
+    ensures { λ r. ⌜ Put 344088 (now (out .entry)) 0 (rectanglesText t «sb128» (unsigned w) (unsigned h)) (now (out .exit)) r ⌝ }
 {
     let mut numbers = [0u32; 16384];
-    let answer = tile_rectangles(t, sb128, &mut numbers);
+    let answer = tile_rectangles(t, sb128, w, h, &mut numbers);
     if is_refusal(answer) {
         return put_refused(out, 0, number(answer));
     }
@@ -70,13 +72,13 @@ fn put_rectangles(out: &mut [u8], t: TileInfo, sb128: u8) -> usize
     put_tiles(out, first, &numbers, tiles)
 }
 
-fn put_read(out: &mut [u8], answer: Answer, t: TileInfo, sb128: u8) -> usize
-    ensures { λ r. ⌜ Put 344088 (now (out .entry)) 0 (readText answer t «sb128») (now (out .exit)) r ⌝ }
+fn put_read(out: &mut [u8], answer: Answer, t: TileInfo, sb128: u8, w: i32, h: i32) -> usize
+    ensures { λ r. ⌜ Put 344088 (now (out .entry)) 0 (readText answer t «sb128» (unsigned w) (unsigned h)) (now (out .exit)) r ⌝ }
 {
     if is_refusal(answer) {
         return put_refused(out, 0, number(answer));
     }
-    put_rectangles(out, t, sb128)
+    put_rectangles(out, t, sb128, w, h)
 }
 
 fn put_tile_rects(out: &mut [u8], s: &[u8]) -> usize
@@ -85,7 +87,9 @@ fn put_tile_rects(out: &mut [u8], s: &[u8]) -> usize
     let r = tile_request(s);
     let answer = r.answer;
     let info = r.info;
-    put_read(out, answer, info, byte_at(s, 4))
+    let w = samples(s, 0);
+    let h = samples(s, 2);
+    put_read(out, answer, info, byte_at(s, 4), w, h)
 }
 
 fn put_frame_rects(out: &mut [u8], s: &[u8]) -> usize
@@ -95,7 +99,7 @@ fn put_frame_rects(out: &mut [u8], s: &[u8]) -> usize
     let answer = r.answer;
     let hdr = r.hdr;
     let tiling = hdr.tiling;
-    put_read(out, answer, tiling, hdr.sb128)
+    put_read(out, answer, tiling, hdr.sb128, hdr.width, hdr.height)
 }
 
 // What is printed of the bytes s behind the first byte.

@@ -6,7 +6,7 @@ ghost use Prim.Native.Nat.{_+_, _-_, _*_, _/_, _%_, _^_, _<_, _≤_, min, max};
 ghost use lib.Dec.{ltb, eqb};
 ghost use lib.ListN.{getD, set};
 ghost use Rattle.codes.specs.Codes.{getUniform};
-ghost use Rattle.tile_layout.specs.Limits.{isSize, superblocks, tileLog2};
+ghost use Rattle.tile_layout.specs.Limits.{superblocks, tileLog2};
 ghost use Rattle.tile_layout.specs.Layout.{base, count, larger};
 ghost use Rattle.superblocks.specs.Counts.{multiplierOf, sizeOf, fitsUniform};
 use codes::get_uniform;
@@ -49,13 +49,6 @@ pub struct SeqStarts([u16; 65]);
 pub struct TileSize {
     pub size: FrameSb,
     pub next: Place,
-}
-
-// Frame width and height are 1 to 65,536.
-pub fn is_size(n: u32) -> bool
-    ensures { λ r. ⌜ r ≡ isSize n ⌝ }
-{
-    (1 <= n) & (n <= 65536)
 }
 
 // How many of the frame's superblocks one of the sequence's is wide.

@@ -11,15 +11,10 @@ use Rattle.codes.specs.Codes.{getUniform}
 use Rattle.codes.proofs.Callers.{uniform-lt}
 use Rattle.tile_layout.specs.Layout as layout
 use Rattle.tile_layout.specs.Layout.{readSizes, startsFrom, sum, widest, over}
-use Rattle.tile_layout.proofs.Laws.{grow}
+use Rattle.tile_layout.proofs.Laws.{sum-append, grow}
 use Rattle.tile_layout.proofs.Sized.{length-starts}
 use Rattle.tile_info.specs.declared.nonuniform.Sizes.{Sizes}
 use Rattle.tile_info.specs.Inner.{SizesOf}
-
-sum-more : (xs : List ℕ) (v : ℕ) → sum (xs ++ (v ∷ [])) ≡ sum xs + v
-unfolding sum
-sum-more [] v = omega arith
-sum-more (x ∷ xs) v = omega (arith, sum-more xs v)
 
 widest-more : (xs : List ℕ) (v : ℕ) → widest (xs ++ (v ∷ [])) ≡ max (widest xs) v
 unfolding widest
@@ -86,6 +81,7 @@ module _ (s : List ℕ) (total limit : ℕ) (start : Place) (old : List ℕ) whe
       → r ≡ total - x → z ≡ getUniform s p (min r limit) .value + 1 → q ≡ getUniform s p (min r limit) .next
       → then-at ≡ set at (min n 64) (x % 65536) → y ≡ max wide z → v ≡ (x + z) % 4294967296
       → Walked then-at q v (n + 1) y
+  unfolding sum
   walk-next {at} {then-at} {p} {q} {x} {n} {wide} {z} {y} {v} {r} w h k l low some er ez eq ea ey ev =
       let f : 64 - n ≡ suc (64 - (n + 1)) = omega arith in
       let zr : z ≤ r = omega (arith, uniform-lt s p (min r limit) (omega arith)) in
@@ -103,7 +99,7 @@ module _ (s : List ℕ) (total limit : ℕ) (start : Place) (old : List ℕ) whe
             ∙ ap (behind (w .done)) (unroll (64 - (n + 1)) s p r limit (omega arith))
             ∙ rw (← ez, ← eq, j, append-assoc) refl;
         tiles = omega (arith, w .tiles, length-append (w .done) (z ∷ []));
-        summed = omega (arith, w .summed, sum-more (w .done) z);
+        summed = omega (arith, w .summed, sum-append (w .done) (z ∷ []));
         wides = omega (arith, w .wides, widest-more (w .done) z);
         stored =
             ea

@@ -1,8 +1,8 @@
 // The arguments, and their domain.
 ghost use mathlib.Core.Path.{_≡_};
 ghost use Rattle.tile_layout.specs.Limits.{argsOf, isPair, inDomain};
-use superblocks::is_size;
 use tile_layout::TileArgs;
+use tile_layout::is_size;
 use tile_layout::not_below_0;
 
 pub fn tile_args(

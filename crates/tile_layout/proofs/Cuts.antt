@@ -18,6 +18,7 @@ pub record Cut (n closing limit : ℕ) (e : ℕ → ℕ) : Type 0 where
   pub few : n ≤ 64
   pub filled : (i : ℕ) → i < n → 1 ≤ e (i + 1) - e i
   pub narrow : (i : ℕ) → i < n → e (i + 1) - e i ≤ limit
+  pub first : e 0 ≡ 0
   pub adds : sum (tabulate (λ i. e (i + 1) - e i) 0 n) ≡ closing
 
 -- no tile is more than one superblock larger than another
@@ -31,6 +32,7 @@ cut {n} {closing} {limit} {e} some few first last step =
       few = few;
       filled = λ i h. omega (arith, step i h);
       narrow = λ i h. omega (arith, step i h);
+      first = first;
       adds = omega (arith, telescope e 0 n (λ i _ h. omega (arith, step i (omega arith))), ap e (zero-add n));
     }
 

@@ -29,7 +29,7 @@ pub record InDomain (a : TileArgs) : Type 0 where
   pub most-tier : a .tier ≤ 1
   pub pair : Pair (a .«frame_code») (a .«seq_code») (a .multiplier)
 
-sized : (n : ℕ) → isSize n ≡ true → (1 ≤ n) × (n ≤ 65536)
+pub sized : (n : ℕ) → isSize n ≡ true → (1 ≤ n) × (n ≤ 65536)
 sized n e =
     let b = both (leb 1 n) (leb n 65536) e in
     (leb-true 1 n (b .0), leb-true n 65536 (b .1))

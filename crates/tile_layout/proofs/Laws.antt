@@ -72,6 +72,12 @@ stored f old n v e h =
 pub closed : (f : ℕ → ℕ) (old : List ℕ) (n v : ℕ) → n < length old → set (over (tabulate f 0 n) old) n v ≡ over (tabulate f 0 n ++ (v ∷ [])) old
 closed f old n v h = grow (tabulate f 0 n) old n v (length-tabulate f 0 n) h
 
+-- what two lists add up to
+pub sum-append : (xs ys : List ℕ) → sum (xs ++ ys) ≡ sum xs + sum ys
+unfolding sum
+sum-append [] ys = sym (zero-add (sum ys))
+sum-append (x ∷ xs) ys = omega (arith, sum-append xs ys)
+
 -- sizes between edges that do not fall add up to the last edge less the first
 pub telescope : (e : ℕ → ℕ) (i n : ℕ) → ((k : ℕ) → i ≤ k → k < i + n → e k ≤ e (k + 1)) → sum (tabulate (λ k. e (k + 1) - e k) i n) + e i ≡ e (i + n)
 unfolding tabulate sum

@@ -1,7 +1,7 @@
 // The records of a tile layout.
 ghost use mathlib.Core.Path.{_≡_};
 ghost use lib.ListN.{getD};
-ghost use Rattle.tile_layout.specs.Limits.{unsigned, noTileInfo};
+ghost use Rattle.tile_layout.specs.Limits.{unsigned, isSize, noTileInfo};
 use answers::Answer;
 use getbits::Place;
 
@@ -46,6 +46,13 @@ pub fn not_below_0(x: i32) -> u32
         return 0;
     }
     x as u32
+}
+
+// Frame width and height are 1 to 65,536.
+pub fn is_size(n: u32) -> bool
+    ensures { λ r. ⌜ r ≡ isSize n ⌝ }
+{
+    (1 <= n) & (n <= 65536)
 }
 
 // The start at i, and 0 past the end.

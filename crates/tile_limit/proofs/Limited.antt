@@ -6,14 +6,15 @@ use mathlib.Core.List.{List}
 use Prim.Native.Nat.{ℕ, _≤_}
 use native.Mathlib.Omega.{arith}
 use borrow.Author.Tests.{ltb-true, ltb-false}
-use lib.Dec.{T, ltb}
+use lib.Dec.{ltb}
 use Rattle.answers.specs.Numbers.{isRefusal}
 use Rattle.answers.specs.declared.Answer.the-variants.{TooManyTiles}
 use Rattle.getbits.specs.Chain.{pick}
 use Rattle.getbits.specs.declared.Place.{Place}
-use Rattle.getbits.proofs.Chain.{picked, left}
+use Rattle.getbits.proofs.Chain.{contrary, picked, left}
 use Rattle.tile_layout.specs.Demand3.{AcceptedLayout}
 use Rattle.tile_layout.specs.Layout.{parseTileInfo}
+use Rattle.tile_layout.proofs.Demand3.{all-accepted}
 use Rattle.tile_layout.specs.declared.TileArgs.{TileArgs}
 use Rattle.tile_layout.specs.declared.TileInfo.{TileInfo}
 use Rattle.tile_layout.specs.declared.TileRead.{TileRead}
@@ -24,20 +25,20 @@ use Rattle.frame_hdr.specs.declared.SeqLayout.{SeqLayout}
 use Rattle.tile_limit.specs.Promises.{Over, Limited, LimitedTiles, FreshAccepted, LimitedFrame}
 use Rattle.tile_limit.specs.Within.{wall, isTooMany, tilesWithin, frameWithin, parseTileInfoWithin, parseTileInfoFrmhdrWithin}
 use Rattle.tile_limit.specs.declared.TileLimit.{TileLimit}
-use Rattle.tile_limit.proofs.OnWall.{OnWall, tiles-accepted, tiles-on-wall, frame-accepted, frame-on-wall}
+use Rattle.tile_limit.proofs.OnWall.{OnWall, tiles-on-wall, frame-accepted, frame-on-wall}
 
 -- the three tests, where they say too many and where they don't
 some : (r a b : Bool) → not r && (a || b) ≡ true → (r ≡ false) × ((a ≡ true) ⊎ (b ≡ true))
 some false true b h = (refl, inl refl)
 some false false true h = (refl, inr refl)
-some false false false h = absurd (subst T (sym h) tt)
-some true a b h = absurd (subst T (sym h) tt)
+some false false false h = contrary h refl
+some true a b h = contrary h refl
 
 neither : (r a b : Bool) → not r && (a || b) ≡ false → r ≡ false → (a ≡ false) × (b ≡ false)
-neither false true b h k = absurd (subst T h tt)
-neither false false true h k = absurd (subst T h tt)
+neither false true b h k = contrary refl h
+neither false false true h k = contrary refl h
 neither false false false h k = (refl, refl)
-neither true a b h k = absurd (subst T k tt)
+neither true a b h k = contrary refl k
 
 module _ (m : TileLimit) (w : TileRead) where
   abbrev cols-over : Bool
@@ -75,8 +76,8 @@ module _ (m : TileLimit) (w : TileRead) where
       (λ t.
       let h = accepted-too-many t in
       record {
-        few-cols = λ r. absurd (subst T r tt);
-        few-rows = λ r. absurd (subst T r tt);
+        few-cols = λ r. contrary refl r;
+        few-rows = λ r. contrary refl r;
         six = λ _ _. refl;
         six-accepted = λ _. h .0;
         six-over = λ _. h .1;
@@ -95,11 +96,11 @@ module _ (m : TileLimit) (w : TileRead) where
       })
 
 -- what is accepted within the limit was accepted on the wall, and is the same
-within-accepted : (P : TileInfo → Type 0) (m : TileLimit) (old : TileInfo) (w : TileRead) → (isRefusal (w .answer) ≡ false → P (w .info))
+pub within-accepted : (P : TileInfo → Type 0) (m : TileLimit) (old : TileInfo) (w : TileRead) → (isRefusal (w .answer) ≡ false → P (w .info))
     → isRefusal (tilesWithin m old w .answer) ≡ false → P (tilesWithin m old w .info)
 unfolding tilesWithin
 within-accepted P m old w f =
-    picked (λ (z : TileRead). isRefusal (z .answer) ≡ false → P (z .info)) (isTooMany m w) _ _ (λ _ r. absurd (subst T r tt)) (λ _. f)
+    picked (λ (z : TileRead). isRefusal (z .answer) ≡ false → P (z .info)) (isTooMany m w) _ _ (λ _ r. contrary refl r) (λ _. f)
 
 -- a frame's layout within the limit
 tiles-of : (m : TileLimit) (h : FrameHeader) (z : FrameRead) → frameTiles (frameWithin m h z) ≡ tilesWithin m (h .tiling) (frameTiles z)
@@ -118,7 +119,7 @@ limited-tiles s p old a m =
     let o = tiles-on-wall s p old a in
     record {
       limited = limited m w old o;
-      accepted = within-accepted (AcceptedLayout s p a) m old w (tiles-accepted s p old a);
+      accepted = within-accepted (AcceptedLayout s p a) m old w (all-accepted s p old a);
       as-on-wall = λ e. left _ _ _ (none-on-wall m w o e);
     }
 

@@ -1,22 +1,22 @@
 -- What the limited readings need of the wall's. Assumes nothing.
-use mathlib.Core.Path.{_≡_, refl, sym, _∙_, ap, subst}
+use mathlib.Core.Path.{_≡_, refl, _∙_, ap}
 use mathlib.Core.Bool.{Bool, true, false}
 use mathlib.Core.List.{List}
 use Prim.Native.Nat.{ℕ, _≤_, _<_}
 use native.Mathlib.Omega.{arith}
-use lib.Dec.{T, lit<, ltb}
+use lib.Dec.{lit<, ltb}
 use Rattle.answers.specs.Numbers.{numberOf, isRefusal}
 use Rattle.getbits.specs.Bits.{getFlag}
 use Rattle.getbits.specs.Chain.{then}
 use Rattle.getbits.specs.declared.Place.{Place}
-use Rattle.getbits.proofs.Chain.{picked, taken, left, through}
+use Rattle.getbits.proofs.Chain.{contrary, picked, taken, left, through}
 use Rattle.tile_layout.specs.Demand3.{AcceptedLayout}
 use Rattle.tile_layout.specs.Layout.{sum, readCols, readRows, uniformLayout, nonUniformLayout, parseTileInfo}
 use Rattle.tile_layout.specs.Limits.{inDomain, sbw, sbh}
 use Rattle.tile_layout.specs.declared.TileArgs.{TileArgs}
 use Rattle.tile_layout.specs.declared.TileInfo.{TileInfo}
 use Rattle.tile_layout.specs.declared.TileRead.{TileRead}
-use Rattle.tile_layout.proofs.Demand3.{demand-3}
+use Rattle.tile_layout.proofs.Demand3.{all-accepted}
 use Rattle.frame_hdr.specs.Frame.{inFrameDomain, readReuse, reuseAllowed, askReuse, reusedInfo, frameArgs, freshLayout, parseTileInfoFrmhdr, frameTiles}
 use Rattle.frame_hdr.specs.declared.FrameHeader.{FrameHeader}
 use Rattle.frame_hdr.specs.declared.FrameRead.{FrameRead}
@@ -52,20 +52,11 @@ tiles-not-6 s p old a =
     (λ _. picked Not6 (getFlag s p .value) _ _ (λ _. other 0 (lit< tt)) (λ _. sizes-not-6 s (getFlag s p .next) old a))
     (λ _. other 4 (lit< tt))
 
--- demand 3 of an accepted layout, whose arguments are in the domain
-pub tiles-accepted : (s : List ℕ) (p : Place) (old : TileInfo) (a : TileArgs) → isRefusal (parseTileInfo s p old a .answer) ≡ false → AcceptedLayout s p a (parseTileInfo s p old a .info)
-unfolding parseTileInfo
-tiles-accepted s p old a e = by (inDomain a) refl
-  where
-    by : (d : Bool) → inDomain a ≡ d → AcceptedLayout s p a (parseTileInfo s p old a .info)
-    by true d = demand-3 s p old a d .accepted e
-    by false d = absurd (subst T (sym (ap (λ (z : TileRead). isRefusal (z .answer)) (left _ _ _ d)) ∙ e) tt)
-
 pub tiles-on-wall : (s : List ℕ) (p : Place) (old : TileInfo) (a : TileArgs) → OnWall (parseTileInfo s p old a)
 tiles-on-wall s p old a =
     record {
-      few-cols = λ e. tiles-accepted s p old a e .most-cols;
-      few-rows = λ e. tiles-accepted s p old a e .most-rows;
+      few-cols = λ e. all-accepted s p old a e .most-cols;
+      few-rows = λ e. all-accepted s p old a e .most-rows;
       never-6 = tiles-not-6 s p old a;
     }
 
@@ -84,7 +75,7 @@ module _ (s : List ℕ) (p : Place) (h : FrameHeader) (q : SeqLayout) where
     where
       by : (d : Bool) → inFrameDomain h q ≡ d → AcceptedLayout s (readReuse s p (frameArgs h q) q .next) (frameArgs h q) (read .hdr .tiling)
       by true d = fresh-demand-3 s p h q d f .accepted e
-      by false d = absurd (subst T (sym (outside d) ∙ e) tt)
+      by false d = contrary (outside d) e
 
   -- a layout that is reused is the sequence's, which is usable
   tiled : inFrameDomain h q ≡ true → readReuse s p (frameArgs h q) q .value ≡ true → Tiled (q .t)
@@ -103,7 +94,7 @@ module _ (s : List ℕ) (p : Place) (h : FrameHeader) (q : SeqLayout) where
   few e = by (inFrameDomain h q) (readReuse s p (frameArgs h q) q .value) refl refl
     where
       by : (d v : Bool) → inFrameDomain h q ≡ d → readReuse s p (frameArgs h q) q .value ≡ v → (read .hdr .tiling .cols ≤ 64) × (read .hdr .tiling .rows ≤ 64)
-      by false v d w = absurd (subst T (sym (outside d) ∙ e) tt)
+      by false v d w = contrary (outside d) e
       by true false d w = let t = frame-accepted e w in (t .most-cols, t .most-rows)
       by true true d w =
           let t = tiled d w in

@@ -24,7 +24,7 @@ use tile_layout::TileRead;
 use tile_layout::no_tile_info;
 
 // A width or a height.
-fn samples(s: &[u8], i: usize) -> i32
+pub fn samples(s: &[u8], i: usize) -> i32
     ensures { λ r. ⌜ r ≡ pos (samplesAt (now (s .entry)) i) ⌝ }
 {
     (two_at(s, i) + 1) as i32

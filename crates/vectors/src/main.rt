@@ -600,15 +600,17 @@ fn lend_rectangles(
     numbers: &mut [u32],
     len: usize,
 ) -> u32 {
-    let a = held_at(args, 142, info.len());
-    let b = held_at(args, 143, cols.len());
-    let c = held_at(args, 144, rows.len());
+    let a = held_at(args, 144, info.len());
+    let b = held_at(args, 145, cols.len());
+    let c = held_at(args, 146, rows.len());
     if len <= numbers.len() {
         return mubanlig_tile_rectangles(
             &info[..a],
             &cols[..b],
             &rows[..c],
             u8_at(args, 139),
+            i32_at(args, 140),
+            i32_at(args, 141),
             &mut numbers[..len],
         );
     }
@@ -622,8 +624,8 @@ fn replay_rectangles(args: &[u32], out: &mut [i64]) -> usize
     let info = info_at(args, 0);
     let cols = starts_at(args, 9);
     let rows = starts_at(args, 74);
-    let mut numbers = numbers_from(u32_at(args, 141));
-    let len = held_at(args, 140, 450);
+    let mut numbers = numbers_from(u32_at(args, 143));
+    let len = held_at(args, 142, 450);
     let answer = lend_rectangles(args, &info, &cols, &rows, &mut numbers, len);
     store(&mut *out, 0, answer as i64);
     store_numbers(&mut *out, 1, &numbers, len);

@@ -123,7 +123,14 @@ fn parse_tile_info_frmhdr(case: &Case, gb: &mut GetBits, out: &mut Outcome) {
 
 fn tile_rectangles(a: &[i64], out: &mut Outcome) {
     let t = from::tile_info(a);
-    let mut buffer: Vec<u32> = (0..a[TILE + 1]).map(|i| (a[TILE + 2] + i) as u32).collect();
-    out.answer = number(mubanlig::tile_rectangles(&t, a[TILE] as u8, &mut buffer));
+    let [code, w, h, len, first] = [0, 1, 2, 3, 4].map(|i| a[TILE + i]);
+    let mut buffer: Vec<u32> = (0..len).map(|i| (first + i) as u32).collect();
+    out.answer = number(mubanlig::tile_rectangles(
+        &t,
+        code as u8,
+        w as i32,
+        h as i32,
+        &mut buffer,
+    ));
     out.record.extend(buffer.iter().map(|&n| i64::from(n)));
 }

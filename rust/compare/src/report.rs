@@ -218,7 +218,13 @@ fn arg_names(kind: Kind) -> Vec<String> {
         .concat(),
         Kind::TileRectangles => [
             layout(""),
-            plain(&["code", "buffer's length", "buffer's first number"]),
+            plain(&[
+                "code",
+                "width",
+                "height",
+                "buffer's length",
+                "buffer's first number",
+            ]),
         ]
         .concat(),
         Kind::Callers => plain(&["caller", "argument"]),

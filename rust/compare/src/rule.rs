@@ -36,7 +36,7 @@ impl Rule {
             Self::Domain => "an argument outside the domain: 4, no bit used",
             Self::WholeRecord => "refused with 2: the record given comes back whole",
             Self::Rectangles => {
-                "the rectangles are document 01's, in the order of #104, and not the Rust's"
+                "the rectangles are document 01's, in the order of #104 and cut as #105 says, and not the Rust's"
             }
             Self::Short => "a lent buffer too short: 5, nothing changes",
             Self::TooMany => "more columns or rows than the limit: 6, the record given comes back",

@@ -9,7 +9,7 @@
 
 use crate::case::{Case, Outcome, Place};
 use crate::kind::Kind;
-use crate::records::{GRAIN, HEADER};
+use crate::records::{GRAIN, HEADER, TILE};
 
 /// The longest case that the list may hold.
 const LONGEST: usize = 60_000;
@@ -201,7 +201,9 @@ fn signed_args(kind: Kind, args: &[u32]) -> Vec<i64> {
 
 fn is_signed(kind: Kind, i: usize) -> bool {
     match kind {
-        Kind::GetUniform | Kind::GetRefUniform | Kind::GetGolomb | Kind::TileRectangles => false,
+        Kind::GetUniform | Kind::GetRefUniform | Kind::GetGolomb => false,
+        // The width and the height.
+        Kind::TileRectangles => [TILE + 1, TILE + 2].contains(&i),
         Kind::GetBitsSubexpU => i == 2,
         Kind::GetBitsSubexp => i == 0,
         _ => true,

@@ -16,7 +16,7 @@ use std::path::{Path, PathBuf};
 use std::{env, process};
 
 /// The number of the interface, which each library says in the name of a function.
-const INTERFACE: u32 = 2;
+const INTERFACE: u32 = 3;
 
 /// The crates, the libraries made of them, and the function before the interface's number.
 const NAMES: [&str; 4] = ["capi_bits", "capi", "capi_within", "capi_grain"];

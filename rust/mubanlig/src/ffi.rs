@@ -35,7 +35,7 @@ const _: () = assert!(offset_of!(TileInfo, row_start_sb) >= INFO_BYTES);
 
 unsafe extern "C" {
     #[cfg(test)]
-    fn mubanlig_bits_interface_2() -> u32;
+    fn mubanlig_bits_interface_3() -> u32;
     fn mubanlig_get_bit(s: *const u8, s_len: usize, position: *mut usize, error: *mut u8) -> u32;
     fn mubanlig_get_bits(
         s: *const u8,
@@ -102,7 +102,7 @@ unsafe extern "C" {
     fn mubanlig_remaining_bytes(s: *const u8, s_len: usize, position: usize) -> usize;
 
     #[cfg(test)]
-    fn mubanlig_interface_2() -> u32;
+    fn mubanlig_interface_3() -> u32;
     fn mubanlig_parse_seg_info(
         s: *const u8,
         s_len: usize,
@@ -184,12 +184,14 @@ unsafe extern "C" {
         row_start_sb: *const u16,
         row_start_sb_len: usize,
         sb128: u8,
+        w: i32,
+        h: i32,
         out: *mut u32,
         out_len: usize,
     ) -> u32;
 
     #[cfg(test)]
-    fn mubanlig_within_interface_2() -> u32;
+    fn mubanlig_within_interface_3() -> u32;
     fn mubanlig_parse_tile_info_within(
         s: *const u8,
         s_len: usize,
@@ -243,7 +245,7 @@ unsafe extern "C" {
     ) -> u32;
 
     #[cfg(test)]
-    fn mubanlig_grain_interface_2() -> u32;
+    fn mubanlig_grain_interface_3() -> u32;
     fn mubanlig_parse_film_grain_data(
         s: *const u8,
         s_len: usize,
@@ -516,7 +518,7 @@ pub(crate) fn parse_film_grain_data(
 }
 
 #[inline]
-pub(crate) fn tile_rectangles(t: &TileInfo, sb128: u8, out: &mut [u32]) -> u32 {
+pub(crate) fn tile_rectangles(t: &TileInfo, sb128: u8, w: i32, h: i32, out: &mut [u32]) -> u32 {
     let (info, cols, rows) = parts(t);
     // SAFETY: all is lent by references, the parts of `t` by the one to it.
     unsafe {
@@ -528,6 +530,8 @@ pub(crate) fn tile_rectangles(t: &TileInfo, sb128: u8, out: &mut [u32]) -> u32 {
             rows,
             MAX_TILE_ROWS + 1,
             sb128,
+            w,
+            h,
             out.as_mut_ptr(),
             out.len(),
         )

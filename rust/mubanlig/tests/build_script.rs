@@ -24,7 +24,7 @@ fn library() -> Vec<u8> {
 /// A library whose functions' names have the number of another interface.
 fn renumbered(number: u8) -> Vec<u8> {
     let mut library = library();
-    let name = b"mubanlig_interface_2";
+    let name = b"mubanlig_interface_3";
     let at = library.windows(name.len()).position(|part| part == name);
     library[at.unwrap() + name.len() - 1] = number;
     library
@@ -39,34 +39,34 @@ fn the_libraries_are_whole_and_of_the_interface() {
         ("libcapi_grain.a", "mubanlig_grain_interface_"),
     ] {
         let path = Path::new(env!("MUBANLIG_LIBRARIES")).join(name);
-        assert_eq!(check(&fs::read(path).unwrap(), mark, 2), Ok(()), "{name}");
+        assert_eq!(check(&fs::read(path).unwrap(), mark, 3), Ok(()), "{name}");
     }
 }
 
 #[test]
 fn another_interface_is_said() {
-    let fault = check(&renumbered(b'3'), MARK, 2).unwrap_err();
-    assert_eq!(fault.to_string(), "has interface 3, and this crate needs 2");
+    let fault = check(&renumbered(b'2'), MARK, 3).unwrap_err();
+    assert_eq!(fault.to_string(), "has interface 2, and this crate needs 3");
     for mark in [
         "mubanlig_bits_interface_",
         "mubanlig_within_interface_",
         "mubanlig_grain_interface_",
     ] {
-        let fault = check(&library(), mark, 2).unwrap_err();
-        assert_eq!(fault, Fault::NoInterface { needed: 2 });
+        let fault = check(&library(), mark, 3).unwrap_err();
+        assert_eq!(fault, Fault::NoInterface { needed: 3 });
     }
 }
 
 #[test]
 fn a_library_cut_anywhere_is_refused() {
     let library = library();
-    assert_eq!(check(&[], MARK, 2), Err(Fault::NotALibrary));
+    assert_eq!(check(&[], MARK, 3), Err(Fault::NotALibrary));
     let steps = (1..library.len() - 1).step_by(library.len() / 500);
     for len in steps.chain([1, 7, 8, 9, 67, 68, library.len() - 2]) {
-        let fault = check(&library[..len], MARK, 2).unwrap_err();
+        let fault = check(&library[..len], MARK, 3).unwrap_err();
         // What ends behind the first words names no function.
         let expected = if len == 8 {
-            Fault::NoInterface { needed: 2 }
+            Fault::NoInterface { needed: 3 }
         } else {
             Fault::Truncated
         };
@@ -76,16 +76,16 @@ fn a_library_cut_anywhere_is_refused() {
 
 #[test]
 fn other_files_are_refused() {
-    assert_eq!(check(b"\x7fELF", MARK, 2), Err(Fault::NotALibrary));
+    assert_eq!(check(b"\x7fELF", MARK, 3), Err(Fault::NotALibrary));
     let mut library = library();
     let object = library
         .windows(4)
         .position(|part| part == b"\x7fELF")
         .unwrap();
     library[object + 18] = 183;
-    assert_eq!(check(&library, MARK, 2), Err(Fault::OtherMachine));
+    assert_eq!(check(&library, MARK, 3), Err(Fault::OtherMachine));
     library[object - 1] = b' ';
-    assert_eq!(check(&library, MARK, 2), Err(Fault::NotALibrary));
+    assert_eq!(check(&library, MARK, 3), Err(Fault::NotALibrary));
 }
 
 #[test]

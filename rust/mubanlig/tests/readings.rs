@@ -602,7 +602,7 @@ fn rectangles_come_row_by_row() {
     let t = layout([0, 0], 256, 128, &[0x20]).0.unwrap();
     assert_eq!((t.cols, t.rows, t.tiles()), (3, 2, 6));
     let mut out = [7; 25];
-    tile_rectangles(&t, 0, &mut out).unwrap();
+    tile_rectangles(&t, 0, 256, 128, &mut out).unwrap();
     let mut expected = Vec::new();
     for down in t.row_starts().windows(2) {
         for across in t.col_starts().windows(2) {
@@ -615,4 +615,54 @@ fn rectangles_come_row_by_row() {
     assert_eq!(out[24], 7);
     let area: u32 = out[..24].chunks(4).map(|tile| tile[2] * tile[3]).sum();
     assert_eq!(area, 256 * 128);
+}
+
+#[test]
+fn rectangles_stop_at_the_edge() {
+    let t = layout([0, 0], 330, 64, &[0xE0]).0.unwrap();
+    assert_eq!(t.col_starts(), [0, 2, 3, 4, 6]);
+    let mut out = [0; 16];
+    tile_rectangles(&t, 0, 330, 64, &mut out).unwrap();
+    assert_eq!(out[12..], [256, 0, 74, 64]);
+    tile_rectangles(&t, 0, 65_536, 1, &mut out).unwrap();
+    assert_eq!(out[12..], [256, 0, 128, 1]);
+    let given = out;
+    for (w, h) in [(0, 64), (330, 0), (-1, 64), (65_537, 64), (330, 65_537)] {
+        assert_eq!(
+            tile_rectangles(&t, 0, w, h, &mut out[..15]),
+            Err(Error::WrongArguments)
+        );
+    }
+    assert_eq!(out, given);
+}
+
+/// A sequence 256 wide with two columns, whose layout a frame 128 wide reuses.
+#[test]
+fn a_reused_tile_may_be_empty() {
+    let mut seqhdr = SequenceHeader {
+        max_width: 256,
+        max_height: 64,
+        ..Default::default()
+    };
+    seqhdr.tiling.present = AdaptiveBoolean::On;
+    seqhdr.tiling.t = layout([0, 0], 256, 64, &[0xC0]).0.unwrap();
+    let mut hdr = FrameHeader {
+        frame_type: FrameType::Inter,
+        width: 128,
+        height: 64,
+        ..Default::default()
+    };
+    parse_tile_info_frmhdr(&mut hdr, &seqhdr, &mut GetBits::new(&[])).unwrap();
+    let mut t = hdr.tiling.t;
+    assert_eq!(t.col_starts(), [0, 2, 4]);
+    let mut out = [0; 8];
+    tile_rectangles(&t, hdr.sb128, hdr.width, hdr.height, &mut out).unwrap();
+    assert_eq!(out, [0, 0, 128, 64, 128, 0, 0, 64]);
+    // In a frame that it ends before, it is not stretched.
+    tile_rectangles(&t, 0, 300, 64, &mut out).unwrap();
+    assert_eq!(out, [0, 0, 128, 64, 128, 0, 128, 64]);
+    // Starts that fall behind the edge fall all the same.
+    (t.col_start_sb[1], t.col_start_sb[2]) = (4, 3);
+    let refused = tile_rectangles(&t, 0, 128, 64, &mut out);
+    assert_eq!(refused, Err(Error::WrongArguments));
 }

@@ -4,7 +4,7 @@ use mathlib.Core.Path.{_≡_, refl, sym, ap, _∙_}
 use borrow.Author.Needs.{needs}
 use borrow.Author.Tests.{not-true, not-false}
 use mir.Facts.{toZ-ofZ}
-use Rattle.getbits.proofs.Chain.{through, taken}
+use Rattle.getbits.proofs.Chain.{contrary, through, taken}
 use Rattle.getbits.specs.declared.Place.{Place}
 use Rattle.lent.specs.Lent.{placeOf}
 use Rattle.tile_layout.specs.Demand3.{Demand3}
@@ -13,7 +13,6 @@ use Rattle.tile_layout.specs.Limits.{argsOf, inDomain}
 use Rattle.tile_layout.specs.declared.TileArgs.{TileArgs}
 use Rattle.flat.specs.Layout.{Buffers, buffers, hasRoom, layoutIn}
 use Rattle.lent_tiles.specs.Calls.{handedTiles, lentTiles, lentTileInfo}
-use Rattle.lent.proofs.Calls.{contrary}
 use Rattle.lent_tiles.proofs.Left.{tiles-short, tiles-number, tiles-kept, demand3-left}
 use Rattle.capi.proofs.mubanlig_parse_tile_info.Statement.{statement}
 use Rattle.capi.proofs.mubanlig_parse_tile_info.Tie as tie

@@ -7,7 +7,7 @@ use borrow.Author.Tests.{not-true, not-false}
 use mir.Facts.{toZ-ofZ}
 use Rattle.answers.specs.declared.Answer.the-variants.{WrongArguments}
 use Rattle.getbits.proofs.Callers.{as-read, read-none}
-use Rattle.getbits.proofs.Chain.{through, taken, left, both}
+use Rattle.getbits.proofs.Chain.{contrary, through, taken, left, both}
 use Rattle.getbits.specs.declared.Number.{Number}
 use Rattle.getbits.specs.declared.Place.{Place}
 use Rattle.lent.specs.Lent.{placeOf}
@@ -18,7 +18,7 @@ use Rattle.frame_hdr.specs.declared.SeqLayout.{SeqLayout}
 use Rattle.flat.specs.Layout.{Buffers, buffers, hasRoom}
 use Rattle.lent.specs.Calls.{answered}
 use Rattle.lent_tiles.specs.Calls.{handedFrame, isKnown, frameGiven, seqGiven, lentFrames, lentFrame}
-use Rattle.lent.proofs.Calls.{row, triple, first-fails, second-fails, both-hold, contrary}
+use Rattle.lent.proofs.Calls.{row, triple, first-fails, second-fails, both-hold}
 use Rattle.lent_tiles.proofs.Left.{frames-short, frame-number, code-kept, frame-kept, demand3-left}
 use Rattle.capi.proofs.mubanlig_parse_tile_info_frmhdr.Statement.{statement}
 use Rattle.capi.proofs.mubanlig_parse_tile_info_frmhdr.Tie as tie

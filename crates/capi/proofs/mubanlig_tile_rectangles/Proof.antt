@@ -1,8 +1,8 @@
 -- `capi::mubanlig_tile_rectangles` meets its contract. Assumes nothing.
-use mathlib.Core.Bool.{true}
 use mathlib.Core.List.{List}
 use mathlib.Core.Path.{refl, sym, ap, _∙_}
 use Prim.Native.Nat.{ℕ}
+use mir.Facts.{toZ-ofZ}
 use borrow.Author.Needs.{needs}
 use borrow.Author.Tests.{not-true, not-false}
 use Rattle.answers.specs.Numbers.{numberOf, isRefusal}
@@ -11,6 +11,7 @@ use Rattle.answers.proofs.Numbers.{refused-unless-0}
 use Rattle.getbits.specs.Chain.{then}
 use Rattle.getbits.proofs.Chain.{taken, left}
 use Rattle.rectangles.proofs.Answers.{kept}
+use Rattle.tile_layout.specs.Limits.{unsigned}
 use Rattle.flat.specs.Layout.{Buffers, buffers, layoutIn}
 use Rattle.capi.specs.Calls.{lentRectangles}
 use Rattle.capi.proofs.mubanlig_tile_rectangles.Statement.{statement}
@@ -34,10 +35,10 @@ returns-2 c =
     let e = t .before in
     let s = e .before .before .before .before .before .before in
     let has = sym (e .before .has-room .ensures) ∙ not-false (e .before .has-room .result) (e .if1 .left) in
-    let done = rw (t .tile-info-of .ensures) at (k .tile-rectangles .ensures) in (
+    let done = rw (t .tile-info-of .ensures, toZ-ofZ (s .fits .w), toZ-ofZ (s .fits .h)) at (k .tile-rectangles .ensures) in (
       rw (c .number .ensures) (ap (λ (z : Answer × List ℕ). (numberOf (z .0), z .1)) done ∙ sym (taken _ _ _ has)),
       λ h. ap (λ (z : Answer × List ℕ). z .1) done
-          ∙ kept (layoutIn (given s)) (s .args .sb128) (s .args .out .now) (ap (λ (z : Answer × List ℕ). isRefusal (z .0)) (sym done) ∙ refused-unless-0 (k .tile-rectangles .result) (λ n. h (c .number .ensures ∙ n))),
+          ∙ kept (layoutIn (given s)) (s .args .sb128) (unsigned (s .args .w)) (unsigned (s .args .h)) (s .args .out .now) (ap (λ (z : Answer × List ℕ). isRefusal (z .0)) (sym done) ∙ refused-unless-0 (k .tile-rectangles .result) (λ n. h (c .number .ensures ∙ n))),
     )
 
 pub mubanlig-tile-rectangles-spec : {M : Type 1} → statement M

@@ -6,7 +6,7 @@ use borrow.Author.Tests.{not-true, not-false}
 use mir.Facts.{toZ-ofZ}
 use Rattle.answers.proofs.Numbers.{accepted-by-0}
 use Rattle.answers.specs.declared.Answer.the-variants.{ShortBuffer}
-use Rattle.getbits.proofs.Chain.{through, taken}
+use Rattle.getbits.proofs.Chain.{contrary, through, taken}
 use Rattle.getbits.specs.declared.Place.{Place}
 use Rattle.lent.specs.Lent.{placeOf}
 use Rattle.tile_layout.specs.Demand3.{AcceptedLayout}
@@ -14,7 +14,6 @@ use Rattle.tile_layout.specs.Limits.{argsOf}
 use Rattle.tile_layout.specs.declared.TileArgs.{TileArgs}
 use Rattle.flat.specs.Layout.{Buffers, buffers, hasRoom, layoutIn}
 use Rattle.lent_tiles.specs.Calls.{handedTiles, lentTiles, lentTileInfo}
-use Rattle.lent.proofs.Calls.{contrary}
 use Rattle.lent_tiles.proofs.Left.{tiles-short, tiles-number, tiles-kept}
 use Rattle.tile_limit.specs.Promises.{LimitedTiles}
 use Rattle.tile_limit.specs.Within.{wall, parseTileInfoWithin}

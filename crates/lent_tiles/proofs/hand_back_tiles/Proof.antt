@@ -4,9 +4,9 @@ use mathlib.Core.Path.{_≡_, sym, _∙_}
 use borrow.Author.Needs.{needs}
 use Rattle.answers.proofs.Numbers.{accepted-0}
 use Rattle.answers.specs.Numbers.{isRefusal}
-use Rattle.getbits.proofs.Chain.{taken, left}
+use Rattle.getbits.proofs.Chain.{contrary, taken, left}
 use Rattle.flat.specs.Layout.{Buffers, buffers, putLayout}
-use Rattle.lent.proofs.Calls.{row, pair, contrary}
+use Rattle.lent.proofs.Calls.{row, pair}
 use Rattle.lent_tiles.proofs.hand_back_tiles.Statement.{statement}
 use Rattle.lent_tiles.proofs.hand_back_tiles.Tie as tie
 

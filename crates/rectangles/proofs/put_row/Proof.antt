@@ -8,20 +8,25 @@ use lib.Seq.{sets, length-sets}
 use lib.ListN.{length}
 use Rattle.rectangles.proofs.Rising.{steps}
 use Rattle.rectangles.proofs.Each.{store-more}
-use Rattle.rectangles.specs.Rectangles.{begins, reaches, each}
+use Rattle.rectangles.specs.Rectangles.{edge, reach, each}
 use Rattle.rectangles.proofs.put_row.Statement.{statement}
 use Rattle.rectangles.proofs.put_row.Tie as tie
 
 abbrev Inv-loop : tie.InvT-loop
-Inv-loop out₀ at starts cols side down col₀ out col =
-    (col ≤ cols) × (out ≡ sets out₀ at (each col λ i. begins starts side i ∷ down .begin ∷ reaches starts side i ∷ down .reach ∷ []))
+Inv-loop out₀ at starts cols side w down col₀ out col =
+    (col ≤ cols) × (out ≡ sets out₀ at (each col λ i. edge starts side w i ∷ down .begin ∷ reach starts side w i ∷ down .reach ∷ []))
 
 abbrev μ-loop : tie.MeasureT-loop
-μ-loop out₀ at starts cols side down col₀ out col = cols - col
+μ-loop out₀ at starts cols side w down col₀ out col = cols - col
 
 -- the tile of each column
 abbrev tile : tie.Start Inv-loop μ-loop → ℕ → List ℕ
-tile s i = begins (s .args .starts .now) (s .args .side) i ∷ s .args .down .begin ∷ reaches (s .args .starts .now) (s .args .side) i ∷ s .args .down .reach ∷ []
+tile s i =
+    edge (s .args .starts .now) (s .args .side) (s .args .w) i
+    ∷ s .args .down .begin
+    ∷ reach (s .args .starts .now) (s .args .side) (s .args .w) i
+    ∷ s .args .down .reach
+    ∷ []
 
 -- the buffer keeps its length, and has room for a tile more
 kept : (l : tie.At-loop Inv-loop μ-loop) → length (l .loop .out) ≡ length (l .before .before .before .args .out .now)

@@ -10,21 +10,21 @@ use lib.ListN.{length, drop}
 use Rattle.tile_layout.proofs.Lengths.{cols-length}
 use Rattle.rectangles.proofs.Rising.{Described, described, steps}
 use Rattle.rectangles.proofs.Each.{each-length, store-more}
-use Rattle.rectangles.specs.Rectangles.{rectangleNumbers, begins, reaches, each, rectangles}
+use Rattle.rectangles.specs.Rectangles.{rectangleNumbers, edge, reach, each, rectangles}
 use Rattle.rectangles.proofs.put_rows.Statement.{statement}
 use Rattle.rectangles.proofs.put_rows.Tie as tie
 
 -- the tiles of a row, by the starts and a superblock's side
-abbrev across : List ℕ → List ℕ → ℕ → ℕ → ℕ → List ℕ
-across col-start-sb row-start-sb side cols row =
-    each cols λ col. begins col-start-sb side col ∷ begins row-start-sb side row ∷ reaches col-start-sb side col ∷ reaches row-start-sb side row ∷ []
+abbrev across : List ℕ → List ℕ → ℕ → ℕ → ℕ → ℕ → ℕ → List ℕ
+across col-start-sb row-start-sb side w h cols row =
+    each cols λ col. edge col-start-sb side w col ∷ edge row-start-sb side h row ∷ reach col-start-sb side w col ∷ reach row-start-sb side h row ∷ []
 
 abbrev Inv-loop : tie.InvT-loop
-Inv-loop sb128 out₀ cols rows col-start-sb row-start-sb side row₀ out row =
-    (row ≤ rows) × (out ≡ sets out₀ 0 (each row (across col-start-sb row-start-sb side cols)))
+Inv-loop sb128 w h out₀ cols rows col-start-sb row-start-sb side row₀ out row =
+    (row ≤ rows) × (out ≡ sets out₀ 0 (each row (across col-start-sb row-start-sb side w h cols)))
 
 abbrev μ-loop : tie.MeasureT-loop
-μ-loop sb128 out₀ cols rows col-start-sb row-start-sb side row₀ out row = rows - row
+μ-loop sb128 w h out₀ cols rows col-start-sb row-start-sb side row₀ out row = rows - row
 
 abbrev At : Type 0
 At = tie.At-loop Inv-loop μ-loop
@@ -33,11 +33,11 @@ abbrev start : At → tie.Start Inv-loop μ-loop
 start l = l .before .before .before .before .before .before .before
 
 known : (s : tie.Start Inv-loop μ-loop) → Described (s .args .t) (s .args .sb128)
-known s = described (s .args .t) (s .args .sb128) (s .pre .0)
+known s = described (s .args .t) (s .args .sb128) (s .args .w) (s .args .h) (s .pre .0)
 
 -- the tiles of each row
 abbrev tiles : At → ℕ → List ℕ
-tiles l = let a = start l .args in across (a .t .«col_start_sb») (a .t .«row_start_sb») (l .before .side-of .result) (a .t .cols)
+tiles l = let a = start l .args in across (a .t .«col_start_sb») (a .t .«row_start_sb») (l .before .side-of .result) (a .w) (a .h) (a .t .cols)
 
 tiles-long : (l : At) (row : ℕ) → length (tiles l row) ≡ 4 * start l .args .t .cols
 tiles-long l row = let a = start l .args in each-length _ 4 (λ _. refl) (a .t .cols)
@@ -114,7 +114,7 @@ returns c =
     ∙ ap (λ (n : ℕ). sets (a .out .now) 0 (each n (tiles l))) e
     ∙ sets-eq all (a .out .now) 0 (omega (arith, long, start l .pre .1))
     ∙ ap (λ (n : ℕ). all ++ drop n (a .out .now)) (zero-add (length all) ∙ long)
-    ∙ ap (λ (side : ℕ). each (a .t .rows) (across (a .t .«col_start_sb») (a .t .«row_start_sb») side (a .t .cols)) ++ drop (rectangleNumbers (a .t)) (a .out .now)) (l .before .side-of .ensures .0)
+    ∙ ap (λ (side : ℕ). each (a .t .rows) (across (a .t .«col_start_sb») (a .t .«row_start_sb») side (a .w) (a .h) (a .t .cols)) ++ drop (rectangleNumbers (a .t)) (a .out .now)) (l .before .side-of .ensures .0)
 
 pub put-rows-spec : {M : Type 1} → statement M
 put-rows-spec =

@@ -1,6 +1,7 @@
 -- `rects::put_read` meets its contract. Assumes nothing.
 use native.Mathlib.Omega.{arith}
 use borrow.Author.Needs.{needs}
+use mir.Facts.{toZ-ofZ}
 use Rattle.text.proofs.Puts.{within}
 use Rattle.rects.specs.Print.{readText}
 use Rattle.rects.proofs.put_read.Statement.{statement}
@@ -18,7 +19,8 @@ unfolding readText
 returns-2 c =
     let p = c .before .before in
     let e = p .before .before in
-    rw (← e .before .is-refusal .ensures, e .if1 .left) (p .put-rectangles .ensures)
+    let f = c .before .before .before .before .before .before .before .fits in
+    rw (← e .before .is-refusal .ensures, e .if1 .left) (rw (toZ-ofZ (f .w), toZ-ofZ (f .h)) at (p .put-rectangles .ensures))
 
 pub put-read-spec : {M : Type 1} → statement M
 put-read-spec =

@@ -5,6 +5,7 @@ use mathlib.Core.Path.{_≡_, sym, ap, _∙_}
 use Prim.Native.Nat.{ℕ, _≤_}
 use native.Mathlib.Omega.{arith}
 use borrow.Author.Needs.{needs}
+use mir.Facts.{toZ-ofZ}
 use borrow.Author.Tests.{not-true, not-false}
 use lib.ListN.{length, drop, replicate, length-append, length-replicate}
 use Rattle.answers.specs.Numbers.{numberOf, isRefusal}
@@ -14,7 +15,8 @@ use Rattle.text.proofs.Puts.{also, within}
 use Rattle.rectangles.proofs.Answers.{accepted, refused, refuses}
 use Rattle.rectangles.proofs.Places.{long}
 use Rattle.rectangles.proofs.Rising.{tiles-le}
-use Rattle.rectangles.specs.Rectangles.{hasRectangles, rectangleNumbers, rectangles}
+use Rattle.rectangles.specs.Rectangles.{hasRectangles, rectangleNumbers, rectangles, tileRectangles}
+use Rattle.tile_layout.specs.Limits.{unsigned}
 use Rattle.rects.specs.Print.{rectanglesText}
 use Rattle.rects.proofs.Tiles.{lines-of}
 use Rattle.rects.proofs.put_rectangles.Statement.{statement}
@@ -27,12 +29,17 @@ zeros = replicate 16384 0
 roomy : 16384 ≤ length zeros
 roomy = let none : ℕ = 0 in omega (arith, length-replicate 16384 none)
 
--- the test of the answer is one of the layout
-asked : (k : tie.After-is-refusal) → let a = k .before .before .before .before .before .args in k .is-refusal .result ≡ not (hasRectangles (a .t) (a .sb128))
-asked k = let a = k .before .before .before .before .before .args in
-    k .is-refusal .ensures ∙ ap (λ (z : Answer × List ℕ). isRefusal (z .0)) (k .before .before .tile-rectangles .ensures) ∙ refuses (a .t) (a .sb128) zeros roomy
+-- the answer and the numbers after the call
+called : (k : tie.After-tile-rectangles) → let a = k .before .before .before .args in
+    (k .tile-rectangles .result, k .tile-rectangles .last .1 .1 .1 .1 .0) ≡ tileRectangles (a .t) (a .sb128) (unsigned (a .w)) (unsigned (a .h)) zeros
+called k = let f = k .before .before .before .fits in rw (toZ-ofZ (f .w), toZ-ofZ (f .h)) at (k .tile-rectangles .ensures)
 
-has : (k : tie.Else1) → let a = k .before .before .before .before .before .before .args in hasRectangles (a .t) (a .sb128) ≡ true
+-- the test of the answer is one of the layout
+asked : (k : tie.After-is-refusal) → let a = k .before .before .before .before .before .args in k .is-refusal .result ≡ not (hasRectangles (a .t) (a .sb128) (unsigned (a .w)) (unsigned (a .h)))
+asked k = let a = k .before .before .before .before .before .args in
+    k .is-refusal .ensures ∙ ap (λ (z : Answer × List ℕ). isRefusal (z .0)) (called (k .before .before)) ∙ refuses (a .t) (a .sb128) (unsigned (a .w)) (unsigned (a .h)) zeros roomy
+
+has : (k : tie.Else1) → let a = k .before .before .before .before .before .before .args in hasRectangles (a .t) (a .sb128) (unsigned (a .w)) (unsigned (a .h)) ≡ true
 has k = not-false _ (sym (asked (k .before)) ∙ k .if1 .left)
 
 returns : tie.Need-returns
@@ -42,26 +49,26 @@ returns c =
     let k = p .before .before .before in
     let a = k .before .before .before .before .before .before .args in
     let none = not-true _ (sym (asked (k .before)) ∙ k .if1 .taken) in
-    let four = p .before .number .ensures ∙ ap (λ (z : Answer × List ℕ). numberOf (z .0)) (k .before .before .before .tile-rectangles .ensures ∙ refused (a .t) (a .sb128) zeros none) in
+    let four = p .before .number .ensures ∙ ap (λ (z : Answer × List ℕ). numberOf (z .0)) (called (k .before .before .before) ∙ refused (a .t) (a .sb128) (unsigned (a .w)) (unsigned (a .h)) zeros none) in
     rw (none, ← four) (within (omega arith) (p .put-refused .ensures))
 
 mul-tiles : tie.Need-mul-tiles
 mul-tiles c =
     let k = c .before .before in
     let a = k .before .before .before .before .before .before .args in
-    omega (arith, tiles-le (a .t) (a .sb128) (has k))
+    omega (arith, tiles-le (a .t) (a .sb128) (unsigned (a .w)) (unsigned (a .h)) (has k))
 
 -- the numbers after it
 written : (k : tie.Else1) → let a = k .before .before .before .before .before .before .args in
-    k .before .before .before .tile-rectangles .last .1 .1 .0 ≡ rectangles (a .t) (a .sb128) ++ drop (rectangleNumbers (a .t)) zeros
+    k .before .before .before .tile-rectangles .last .1 .1 .1 .1 .0 ≡ rectangles (a .t) (a .sb128) (unsigned (a .w)) (unsigned (a .h)) ++ drop (rectangleNumbers (a .t)) zeros
 written k = let a = k .before .before .before .before .before .before .args in
-    ap (λ (z : Answer × List ℕ). z .1) (k .before .before .before .tile-rectangles .ensures ∙ accepted (a .t) (a .sb128) zeros roomy (has k))
+    ap (λ (z : Answer × List ℕ). z .1) (called (k .before .before .before) ∙ accepted (a .t) (a .sb128) (unsigned (a .w)) (unsigned (a .h)) zeros roomy (has k))
 
 put-tiles-requires : tie.Need-put-tiles-requires
 put-tiles-requires c κs =
     let k = c .before .before .before .before .before .before .before .before .before .before in
     let a = k .before .before .before .before .before .before .args in
-    omega (arith, ap length (written k), length-append (rectangles (a .t) (a .sb128)) (drop (rectangleNumbers (a .t)) zeros), long (a .t) (a .sb128))
+    omega (arith, ap length (written k), length-append (rectangles (a .t) (a .sb128) (unsigned (a .w)) (unsigned (a .h))) (drop (rectangleNumbers (a .t)) zeros), long (a .t) (a .sb128) (unsigned (a .w)) (unsigned (a .h)))
 
 returns-2 : tie.Need-returns-2
 unfolding rectanglesText word
@@ -70,7 +77,7 @@ returns-2 c =
     let l = p .before .before .before .before .before in
     let k = l .before .before .before .before .before .before in
     let a = k .before .before .before .before .before .before .args in
-    rw (has k, ← lines-of (a .t) (a .sb128) _ _ (written k)) (within (omega (arith, tiles-le (a .t) (a .sb128) (has k))) (also (l .put-line .ensures) (p .put-tiles .ensures)))
+    rw (has k, ← lines-of (a .t) (a .sb128) (unsigned (a .w)) (unsigned (a .h)) _ _ (written k)) (within (omega (arith, tiles-le (a .t) (a .sb128) (unsigned (a .w)) (unsigned (a .h)) (has k))) (also (l .put-line .ensures) (p .put-tiles .ensures)))
 
 pub put-rectangles-spec : {M : Type 1} → statement M
 put-rectangles-spec =

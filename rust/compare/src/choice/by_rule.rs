@@ -2,7 +2,7 @@
 
 use crate::case::{Case, Outcome, Place};
 use crate::kind::Kind;
-use crate::make::layouts::{PAIRS, layout_by_hand};
+use crate::make::layouts::{PAIRS, extent, layout_by_hand};
 use crate::make::make;
 use crate::records::TILE;
 use crate::rng::Rng;
@@ -232,7 +232,7 @@ impl Adder<'_> {
         }
     }
 
-    /// A layout that rectangles can be told of, a code, and so many numbers more than they need.
+    /// A layout that rectangles can be told of, a code, a width and a height, and so many numbers more than they need.
     fn layout_and_buffer(&mut self, more: i64) -> Vec<i64> {
         loop {
             let mut args = Vec::new();
@@ -242,11 +242,11 @@ impl Adder<'_> {
                 let (cols, rows) = (args[4] as usize, args[8] as usize);
                 args[10 + cols..74].fill(0);
                 args[75 + rows..].fill(0);
-                args.extend([
-                    self.rng.range(0, 2),
-                    (numbers + more).max(0),
-                    self.rng.range(0, 100_000),
-                ]);
+                let code = self.rng.range(0, 2);
+                let w = extent(self.rng, &args[9..=9 + cols], code);
+                let h = extent(self.rng, &args[74..=74 + rows], code);
+                let first = self.rng.range(0, 100_000);
+                args.extend([code, w, h, (numbers + more).max(0), first]);
                 return args;
             }
         }
@@ -270,7 +270,7 @@ impl Adder<'_> {
                         args[9 + i] = 15 * i as i64;
                         args[74 + i] = 16 * i as i64;
                     }
-                    args.extend([code, 256, 5]);
+                    args.extend([code, 65_536, 65_536, 256, 5]);
                     self.case(Kind::TileRectangles, args);
                 }
             }
@@ -302,7 +302,7 @@ impl Adder<'_> {
                     args[10..12].copy_from_slice(&[3, 8]);
                     args[75..77].copy_from_slice(&[2, 9]);
                     args[starts + 2] = closing;
-                    args.extend([code, 17, 5]);
+                    args.extend([code, 65_536, 65_536, 17, 5]);
                     self.list.push(Case {
                         args,
                         ..Case::of(Kind::TileRectangles)
@@ -315,5 +315,43 @@ impl Adder<'_> {
             (args[4], args[8]) = (cols, rows);
             self.case(Kind::TileRectangles, args);
         }
+        self.cut_rectangles();
     }
+
+    /// A width and a height on both sides of their domain, before a short buffer too, and about each edge of the layout with the
+    /// starts 0 2 3 4 6: 330 wide, its last column begins at 256, and 128 wide, its last three columns are empty. Then starts that
+    /// fall, behind the edge or before it.
+    fn cut_rectangles(&mut self) {
+        for size in [TILE + 1, TILE + 2] {
+            for value in [-TOP, -1, 0, 1, 2, 65_535, 65_536, 65_537, TOP - 1] {
+                for more in [0, -1] {
+                    let mut args = self.layout_and_buffer(more);
+                    args[size] = value;
+                    self.case(Kind::TileRectangles, args);
+                }
+            }
+            for value in [
+                1, 64, 127, 128, 129, 191, 192, 193, 255, 256, 257, 330, 383, 384, 385,
+            ] {
+                let mut args = four_by_four([0, 2, 3, 4, 6]);
+                args[size] = value;
+                self.case(Kind::TileRectangles, args);
+            }
+            for value in [128, 192, 193, 257] {
+                let mut args = four_by_four([0, 2, 4, 3, 6]);
+                args[size] = value;
+                self.case(Kind::TileRectangles, args);
+            }
+        }
+    }
+}
+
+/// Four columns and four rows with these starts, in a frame of 384 by 384 samples, and a number more than they need.
+fn four_by_four(starts: [i64; 5]) -> Vec<i64> {
+    let mut args = vec![0; TILE];
+    (args[4], args[8]) = (4, 4);
+    args[9..14].copy_from_slice(&starts);
+    args[74..79].copy_from_slice(&starts);
+    args.extend([0, 384, 384, 65, 7]);
+    args
 }

@@ -153,7 +153,19 @@ pub fn layout_by_hand(rng: &mut Rng, row: &mut Vec<i64>) {
     }
 }
 
-/// The layout, the superblock code, the buffer's length and its first number.
+/// A width or a height: about where one of the starts stands, or any.
+pub fn extent(rng: &mut Rng, starts: &[i64], code: i64) -> i64 {
+    let start = starts[rng.below(starts.len() as u64) as usize];
+    match rng.below(8) {
+        0 => 65_536,
+        1 => rng.range(1, 65_536),
+        2 => (start << (6 + code)) + rng.range(-300, 300),
+        _ => (start << (6 + code)) + rng.range(-1, 1),
+    }
+    .clamp(1, 65_536)
+}
+
+/// The layout, the superblock code, the frame's width and height, the buffer's length and its first number.
 pub fn rectangles_case(rng: &mut Rng, case: &mut Case) {
     let row = &mut case.args;
     if rng.percent(5) {
@@ -184,5 +196,13 @@ pub fn rectangles_case(rng: &mut Rng, case: &mut Case) {
         2..=4 => numbers,
         _ => numbers + rng.range(1, 9),
     };
-    row.extend([code, len.max(0), i64::from(rng.number() as u32)]);
+    let [mut w, mut h] = [(4, 9), (8, 74)].map(|(tiles, starts)| {
+        let closing = starts + row[tiles].min(64) as usize;
+        extent(rng, &row[starts..=closing], code.min(2))
+    });
+    if rng.percent(3) {
+        let size = if rng.percent(50) { &mut w } else { &mut h };
+        *size = rng.pick(&[0, -1, 65_537, i64::from(i32::MIN), i64::from(i32::MAX)]);
+    }
+    row.extend([code, w, h, len.max(0), i64::from(rng.number() as u32)]);
 }

@@ -199,13 +199,13 @@ fn the_libraries_are_those_of_this_interface() {
     // SAFETY: nothing is lent.
     let numbers = unsafe {
         [
-            mubanlig_bits_interface_2(),
-            mubanlig_interface_2(),
-            mubanlig_within_interface_2(),
-            mubanlig_grain_interface_2(),
+            mubanlig_bits_interface_3(),
+            mubanlig_interface_3(),
+            mubanlig_within_interface_3(),
+            mubanlig_grain_interface_3(),
         ]
     };
-    assert_eq!(numbers, [2, 2, 2, 2]);
+    assert_eq!(numbers, [3, 3, 3, 3]);
 }
 
 #[test]
@@ -312,6 +312,8 @@ fn a_short_layout_has_no_rectangles() {
                 starts.as_ptr(),
                 lengths[2],
                 0,
+                64,
+                64,
                 out.as_mut_ptr(),
                 out.len(),
             )

@@ -227,13 +227,13 @@ static uint32_t frame(struct bytes b, struct record *r, struct lengths n, struct
     return frame_in(b, r, n, a, seq, m, NULL);
 }
 
-static uint32_t rectangles(struct record *r, struct lengths n, uint8_t sb128)
+static uint32_t rectangles(struct record *r, struct lengths n, uint8_t sb128, int32_t w, int32_t h)
 {
     LEND(const uint8_t, info, r->info, n.info);
     LEND(const uint16_t, cols, r->cols, n.cols);
     LEND(const uint16_t, rows, r->rows, n.rows);
     LEND(uint32_t, out, r->out, n.out);
-    uint32_t answer = mubanlig_tile_rectangles(info, n.info, cols, n.cols, rows, n.rows, sb128, out, n.out);
+    uint32_t answer = mubanlig_tile_rectangles(info, n.info, cols, n.cols, rows, n.rows, sb128, w, h, out, n.out);
     free((void *)info);
     free((void *)cols);
     free((void *)rows);
@@ -308,10 +308,10 @@ static struct layout_args sized(int32_t w, int32_t h)
 
 static void interfaces(void)
 {
-    CHECK(mubanlig_bits_interface_2() == MUBANLIG_INTERFACE);
-    CHECK(mubanlig_interface_2() == MUBANLIG_INTERFACE);
-    CHECK(mubanlig_within_interface_2() == MUBANLIG_INTERFACE);
-    CHECK(mubanlig_grain_interface_2() == MUBANLIG_INTERFACE);
+    CHECK(mubanlig_bits_interface_3() == MUBANLIG_INTERFACE);
+    CHECK(mubanlig_interface_3() == MUBANLIG_INTERFACE);
+    CHECK(mubanlig_within_interface_3() == MUBANLIG_INTERFACE);
+    CHECK(mubanlig_grain_interface_3() == MUBANLIG_INTERFACE);
 }
 
 static void readings_of_known_bytes(void)
@@ -372,7 +372,7 @@ static void no_data(void)
     CHECK(memcmp(r.hdr, zero.hdr, sizeof r.hdr) == 0 && memcmp(r.info, zero.info, sizeof r.info) == 0);
     CHECK(memcmp(r.cols, zero.cols, sizeof r.cols) == 0 && memcmp(r.rows, zero.rows, sizeof r.rows) == 0);
     r = filled(0);
-    CHECK(mubanlig_tile_rectangles(NULL, 0, NULL, 0, NULL, 0, 0, NULL, 0) == MUBANLIG_SHORT_BUFFER);
+    CHECK(mubanlig_tile_rectangles(NULL, 0, NULL, 0, NULL, 0, 0, 64, 64, NULL, 0) == MUBANLIG_SHORT_BUFFER);
     CHECK(mubanlig_parse_tile_info_within(NULL, 0, &r.position, &r.error, NULL, 0, NULL, 0, NULL, 0, 1, 0, 0, 64, 64, 0, 0,
         MUBANLIG_PANEL_COLS, MUBANLIG_PANEL_ROWS) == MUBANLIG_SHORT_BUFFER);
     CHECK(mubanlig_parse_tile_info_frmhdr_within(NULL, 0, &r.position, &r.error, MUBANLIG_FRAME_KEY, 64, 64, &r.sb128,
@@ -382,19 +382,28 @@ static void no_data(void)
     CHECK(same(&r, &zero));
 }
 
-/* Each tile's numbers stand at its place, row by row. */
-static void check_rectangles(const struct record *r, uint8_t sb128)
+/* Where a start stands, cut at the frame's edge. */
+static uint32_t edge(uint16_t start, uint8_t sb128, int32_t most)
 {
-    const uint32_t side = 64u << sb128;
+    const uint32_t samples = start * (64u << sb128);
+    return samples < (uint32_t)most ? samples : (uint32_t)most;
+}
+
+/* Each tile's numbers stand at its place, row by row. Answers the sum of the areas. */
+static uint64_t check_rectangles(const struct record *r, uint8_t sb128, int32_t w, int32_t h)
+{
     const size_t columns = r->info[MUBANLIG_INFO_COLS];
+    uint64_t area = 0;
     size_t col, row;
     for (row = 0; row < r->info[MUBANLIG_INFO_ROWS]; row++) {
         for (col = 0; col < columns; col++) {
             const uint32_t *tile = r->out + MUBANLIG_TILE_NUMBERS * (row * columns + col);
-            CHECK(tile[0] == r->cols[col] * side && tile[0] + tile[2] == r->cols[col + 1] * side);
-            CHECK(tile[1] == r->rows[row] * side && tile[1] + tile[3] == r->rows[row + 1] * side);
+            CHECK(tile[0] == edge(r->cols[col], sb128, w) && tile[0] + tile[2] == edge(r->cols[col + 1], sb128, w));
+            CHECK(tile[1] == edge(r->rows[row], sb128, h) && tile[1] + tile[3] == edge(r->rows[row + 1], sb128, h));
+            area += (uint64_t)tile[2] * tile[3];
         }
     }
+    return area;
 }
 
 static void a_layout_and_its_rectangles(void)
@@ -403,7 +412,6 @@ static void a_layout_and_its_rectangles(void)
     static const uint32_t WHOLE[] = { 0, 2, 3, 4 };
     struct record r = filled(0);
     struct lengths n = LONG;
-    uint32_t area = 0;
     size_t i;
     CHECK(layout(some(S, sizeof S), &r, LONG, SMALL) == MUBANLIG_ACCEPTED);
     CHECK(r.position == 5 && r.error == 0);
@@ -413,15 +421,16 @@ static void a_layout_and_its_rectangles(void)
     }
     CHECK(r.rows[0] == 0 && r.rows[1] == 1 && r.rows[2] == 2);
     n.out = 23;
-    CHECK(rectangles(&r, n, 0) == MUBANLIG_SHORT_BUFFER && r.out[0] == 0);
+    CHECK(rectangles(&r, n, 0, 256, 128) == MUBANLIG_SHORT_BUFFER && r.out[0] == 0);
     n.out = 25;
     r.out[24] = 7;
-    CHECK(rectangles(&r, n, 0) == MUBANLIG_ACCEPTED && r.out[24] == 7);
-    check_rectangles(&r, 0);
-    for (i = 0; i < 24; i += MUBANLIG_TILE_NUMBERS) {
-        area += r.out[i + 2] * r.out[i + 3];
-    }
-    CHECK(area == 256 * 128);
+    CHECK(rectangles(&r, n, 0, 256, 128) == MUBANLIG_ACCEPTED && r.out[24] == 7);
+    CHECK(check_rectangles(&r, 0, 256, 128) == 256 * 128);
+    /* In a smaller frame tiles are cut and empty, and in a larger one not stretched. */
+    CHECK(rectangles(&r, n, 0, 130, 60) == MUBANLIG_ACCEPTED && r.out[24] == 7);
+    CHECK(check_rectangles(&r, 0, 130, 60) == 130 * 60);
+    CHECK(rectangles(&r, n, 0, 65536, 65536) == MUBANLIG_ACCEPTED && r.out[24] == 7);
+    CHECK(check_rectangles(&r, 0, 65536, 65536) == 256 * 128);
 }
 
 static void a_header(void)
@@ -662,10 +671,13 @@ static void refusals(void)
     r = given;
     CHECK(frame(some(S, sizeof S), &r, LONG, a, &seq, LONG) == MUBANLIG_WRONG_ARGUMENTS && same(&r, &given));
 
-    /* Rectangles of too many columns or rows, of starts that fall, of no such code. */
-    for (i = 0; i < 5; i++) {
+    /* Rectangles of too many columns or rows, of starts that fall, of no such code, in no such frame. */
+    r = seq;
+    CHECK(rectangles(&r, LONG, 0, 64, 64) == MUBANLIG_ACCEPTED);
+    for (i = 0; i < 9; i++) {
         struct record bad = seq;
         uint8_t sb128 = 0;
+        int32_t w = 64, h = 64;
         if (i == 0) {
             bad.info[MUBANLIG_INFO_COLS] = 65;
         } else if (i == 1) {
@@ -674,11 +686,19 @@ static void refusals(void)
             bad.rows[0] = 1;
         } else if (i == 3) {
             bad.info[MUBANLIG_INFO_COLS] = 0;
-        } else {
+        } else if (i == 4) {
             sb128 = 3;
+        } else if (i == 5) {
+            w = 65537;
+        } else if (i == 6) {
+            h = 65537;
+        } else if (i == 7) {
+            w = 0;
+        } else {
+            h = -1;
         }
         r = bad;
-        CHECK(rectangles(&r, LONG, sb128) == MUBANLIG_WRONG_ARGUMENTS && same(&r, &bad));
+        CHECK(rectangles(&r, LONG, sb128, w, h) == MUBANLIG_WRONG_ARGUMENTS && same(&r, &bad));
     }
 }
 
@@ -734,7 +754,7 @@ static void short_buffers(void)
             CHECK(frame_in(some(S, sizeof S), &r, LONG, A, &given, n, limit) == MUBANLIG_SHORT_BUFFER && same(&r, &given));
         }
         r = given;
-        CHECK(rectangles(&r, n, 0) == MUBANLIG_SHORT_BUFFER && same(&r, &given));
+        CHECK(rectangles(&r, n, 0, 64, 64) == MUBANLIG_SHORT_BUFFER && same(&r, &given));
     }
 }
 
@@ -937,10 +957,10 @@ static void random_turn(void)
     if (answer == MUBANLIG_ACCEPTED) {
         mark = (64u << a.sb128) - 1;
         check_layout(&r, ((uint32_t)a.w + mark) >> (6 + a.sb128), ((uint32_t)a.h + mark) >> (6 + a.sb128));
-        answer = rectangles(&r, LONG, a.sb128);
+        answer = rectangles(&r, LONG, a.sb128, a.w, a.h);
         CHECK(answer == MUBANLIG_ACCEPTED || answer == MUBANLIG_SHORT_BUFFER);
         if (answer == MUBANLIG_ACCEPTED) {
-            check_rectangles(&r, a.sb128);
+            CHECK(check_rectangles(&r, a.sb128, a.w, a.h) == (uint64_t)a.w * (uint64_t)a.h);
         }
     }
     on_wall = given;
@@ -951,10 +971,10 @@ static void random_turn(void)
 
     r = given;
     a.sb128 = (uint8_t)below(3);
-    answer = rectangles(&r, LONG, a.sb128);
+    answer = rectangles(&r, LONG, a.sb128, a.w, a.h);
     CHECK(answer <= 5 && keeps(&r, &given, MUBANLIG_ACCEPTED) == (answer != MUBANLIG_ACCEPTED));
     if (answer == MUBANLIG_ACCEPTED) {
-        check_rectangles(&r, a.sb128);
+        check_rectangles(&r, a.sb128, a.w, a.h);
     }
 
     r = given;

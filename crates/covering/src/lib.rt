@@ -1,0 +1,1 @@
+// No code: the rectangles of every layout that is read fresh cover its picture.
