@@ -33,7 +33,7 @@ use Rattle.tile_layout.proofs.Area.{min-cols, max-cols, max-rows, cover
 abbrev pub FromZero : TileInfo → Type 0
 FromZero t = (getD (t .«col_start_sb») 0 0 ≡ 0) × (getD (t .«row_start_sb») 0 0 ≡ 0)
 
--- demand 3 of an answer, and that of an accepted layout
+-- demand 3 of an answer, and where an accepted layout begins
 record Met (s : List ℕ) (p : Place) (a : TileArgs) (z : TileRead) : Type 0 where
   demand : Demand3 s p a z
   begins : isRefusal (z .answer) ≡ false → FromZero (z .info)
