@@ -1,16 +1,18 @@
 /*
- * Mubanlig: AV2 sequence headers, tile layouts and film grain parameters, read by a proved library. For C and C++ on x86-64 Linux.
+ * Mubanlig: AV2 sequence headers, tile layouts and film grain parameters, read by a proved library, which writes layouts too. For C and
+ * C++ on x86-64 Linux.
  *
- * Link libcapi_bits.a (the readings), libcapi.a (the records), libcapi_within.a (layouts within a limit) and libcapi_grain.a (film grain
- * parameters), which `rt staticlib` with capi_bits, capi, capi_within and capi_grain proves and writes. docs/INTERFACE.md says what they
- * promise.
+ * Link libcapi_bits.a (the readings), libcapi.a (the records), libcapi_within.a (layouts within a limit), libcapi_grain.a (film grain
+ * parameters) and libcapi_write.a (layouts written as bits), which `rt staticlib` with capi_bits, capi, capi_within, capi_grain and
+ * capi_write proves and writes. docs/INTERFACE.md says what they promise.
  *
  * What holds of every call:
  *
  * - A buffer is a pointer and its length in elements. NULL with length 0 is fine, and reads as no data. A buffer may be longer than its
  *   name below says; what stands behind is not touched.
- * - What the caller owes: each pointer is good for its length, `position`, `error` and `sb128` are not NULL, and nothing that is lent for
- *   writing (without const) overlaps anything else that is lent to the same call, read or written. Two that are only read may overlap.
+ * - What the caller owes: each pointer is good for its length, `position`, `error`, `sb128` and `bits` are not NULL, and nothing that is
+ *   lent for writing (without const) overlaps anything else that is lent to the same call, read or written. Two that are only read may
+ *   overlap.
  * - A reader is its bytes, a position and an error. It starts at position 0 with error 0, which the caller sets; each call moves it on.
  *   The position is the number of bits before the next one, most significant first in each byte. The difference of two positions is how
  *   many bits were used between them. A position past the end counts as the end, and comes back as the end.
@@ -40,6 +42,7 @@ extern "C" {
 #define MUBANLIG_MASKS 3            /* masks */
 #define MUBANLIG_TILE_NUMBERS 4     /* out: so many for each tile */
 #define MUBANLIG_GRAIN_NUMBERS 186  /* fgd: film grain parameters */
+#define MUBANLIG_LAYOUT_BYTES 177   /* out: enough for every layout that is written */
 
 /* The limits of the viewers, as max_cols and max_rows: those on walls show every layout, a handheld panel shows less. */
 #define MUBANLIG_WALL_COLS 64
@@ -47,16 +50,17 @@ extern "C" {
 #define MUBANLIG_PANEL_COLS 16
 #define MUBANLIG_PANEL_ROWS 8
 
-/* What the functions that read a record answer. */
+/* What the functions that read or write a record answer. */
 enum mubanlig_answer {
     MUBANLIG_ACCEPTED = 0,
     MUBANLIG_INVALID_SEQUENCE_HEADER = 1,
     MUBANLIG_INVALID_TILE_INFO = 2,
     MUBANLIG_INVALID_TRAILING_BITS = 3,
     MUBANLIG_WRONG_ARGUMENTS = 4, /* and no bit is used */
-    MUBANLIG_SHORT_BUFFER = 5,    /* and nothing that was lent changes, the position neither */
+    MUBANLIG_SHORT_BUFFER = 5,    /* and nothing that was lent changes, the position neither; only bits becomes 0 */
     MUBANLIG_TOO_MANY_TILES = 6,  /* more columns or rows than the limit; the bits of the layout are used */
-    MUBANLIG_INVALID_FILM_GRAIN_DATA = 7
+    MUBANLIG_INVALID_FILM_GRAIN_DATA = 7,
+    MUBANLIG_NO_SUCH_LAYOUT = 8 /* no bits read as the record that was to be written */
 };
 
 /* The bytes of info. */
@@ -240,11 +244,12 @@ enum mubanlig_fgd {
     MUBANLIG_FGD_BLOCK_SIZE = 185
 };
 
-/* The four answer MUBANLIG_INTERFACE. */
+/* The five answer MUBANLIG_INTERFACE. */
 uint32_t mubanlig_bits_interface_3(void);
 uint32_t mubanlig_interface_3(void);
 uint32_t mubanlig_within_interface_3(void);
 uint32_t mubanlig_grain_interface_3(void);
+uint32_t mubanlig_write_interface_3(void);
 
 /*
  * Readings, in libcapi_bits.a. Each answers its value. Data that runs out, or an argument outside the domain, sets the error; most then
@@ -349,6 +354,24 @@ uint32_t mubanlig_parse_tile_info_frmhdr_within(const uint8_t *s, size_t s_len, 
  */
 uint32_t mubanlig_parse_film_grain_data(const uint8_t *s, size_t s_len, size_t *position, uint8_t *error,
     uint8_t layout, int16_t *fgd, size_t fgd_len);
+
+/*
+ * A layout written as bits, in libcapi_write.a: those that mubanlig_parse_tile_info, with the same arguments and over the zero record,
+ * reads as this record without setting the error. They stand in out most significant first, padded with zero bits to a byte; bytes behind
+ * the last one stay. `bits` becomes how many bits they are. Refused, out stays as it was and `bits` becomes 0. What was read so is written
+ * as the bits that were used.
+ *
+ * The record is its nine bytes and the first cols + 1 and rows + 1 starts, and all of these are asked; starts behind them don't count. Two
+ * rows of bits can give the same tiles: for 600 by 128 samples, the codes 1 and 2, sbmul 2, level 0 and tier 0, the bits 1110, 1111 and
+ * 00110 all give the columns 0 2 4 5. So the record's logarithms and its flag decide what is written.
+ *
+ * Short info or starts are 5 before all else; then arguments outside the domain are 4, a record that no bits read as is 8, and out with
+ * fewer bytes than the bits need is 5. Answers 0, 4, 5 or 8.
+ */
+uint32_t mubanlig_write_tile_info(const uint8_t *info, size_t info_len,
+    const uint16_t *col_start_sb, size_t col_start_sb_len, const uint16_t *row_start_sb, size_t row_start_sb_len,
+    int32_t sbmul, uint8_t sb128, uint8_t seq_sb128, int32_t w, int32_t h, uint8_t level, uint8_t tier,
+    uint8_t *out, size_t out_len, uint32_t *bits);
 
 #ifdef __cplusplus
 }

@@ -3,7 +3,7 @@ use Prim.Native.Nat.{ℕ}
 use mathlib.Core.Bool.{Bool, true, false}
 use Rattle.answers.specs.declared.Answer.{Answer}
 use Rattle.answers.specs.declared.Answer.the-variants.{Accepted, InvalidSequenceHeader, InvalidTileInfo}
-use Rattle.answers.specs.declared.Answer.the-variants.{InvalidTrailingBits, WrongArguments, ShortBuffer, TooManyTiles, InvalidFilmGrainData}
+use Rattle.answers.specs.declared.Answer.the-variants.{InvalidTrailingBits, WrongArguments, ShortBuffer, TooManyTiles, InvalidFilmGrainData, NoSuchLayout}
 
 -- 0 is accepted, and each refusal has its number
 abbrev pub numberOf : Answer → ℕ
@@ -15,6 +15,7 @@ numberOf WrongArguments = 4
 numberOf ShortBuffer = 5
 numberOf TooManyTiles = 6
 numberOf InvalidFilmGrainData = 7
+numberOf NoSuchLayout = 8
 
 -- is it a refusal?
 abbrev pub isRefusal : Answer → Bool
@@ -26,3 +27,4 @@ isRefusal WrongArguments = true
 isRefusal ShortBuffer = true
 isRefusal TooManyTiles = true
 isRefusal InvalidFilmGrainData = true
+isRefusal NoSuchLayout = true

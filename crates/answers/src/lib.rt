@@ -11,6 +11,7 @@ pub enum Answer {
     ShortBuffer,
     TooManyTiles,
     InvalidFilmGrainData,
+    NoSuchLayout,
 }
 
 pub fn number(a: Answer) -> u32
@@ -25,6 +26,7 @@ pub fn number(a: Answer) -> u32
         Answer::ShortBuffer => 5,
         Answer::TooManyTiles => 6,
         Answer::InvalidFilmGrainData => 7,
+        Answer::NoSuchLayout => 8,
     }
 }
 
@@ -40,5 +42,6 @@ pub fn is_refusal(a: Answer) -> bool
         Answer::ShortBuffer => true,
         Answer::TooManyTiles => true,
         Answer::InvalidFilmGrainData => true,
+        Answer::NoSuchLayout => true,
     }
 }

@@ -16,7 +16,7 @@ closed s i n h =
     let e : 0 + i ≡ i = omega arith in
     ap (λ (k : ℕ). bitsAt s k n) (sym e) ∙ sym (window s 0 i n (bitCount s - (i + n)) (bitCount s) (omega arith))
 
-all-at : (s : List ℕ) (i : ℕ) → getD (allBits s) i 0 ≡ bitAt s i
+pub all-at : (s : List ℕ) (i : ℕ) → getD (allBits s) i 0 ≡ bitAt s i
 unfolding allBits
 all-at [] i = sym (ap (λ (x : ℕ). x % 2) (zero-div (2 ^ (7 - i % 8))))
 all-at (b ∷ s) zero = refl
@@ -32,7 +32,7 @@ all-at (b ∷ s) (suc (suc (suc (suc (suc (suc (suc (suc i)))))))) =
     let m : (suc (suc (suc (suc (suc (suc (suc (suc i)))))))) % 8 ≡ i % 8 = omega arith in
     rw (d, m) (all-at s i)
 
-all-length : (s : List ℕ) → length (allBits s) ≡ bitCount s
+pub all-length : (s : List ℕ) → length (allBits s) ≡ bitCount s
 unfolding allBits
 all-length [] = refl
 all-length (b ∷ s) = omega (arith, all-length s)

@@ -8,7 +8,7 @@ use Rattle.answers.proofs.Numbers.{refused-unless-0}
 use Rattle.answers.specs.Numbers.{numberOf, isRefusal}
 use Rattle.answers.specs.declared.Answer.{Answer}
 use Rattle.answers.specs.declared.Answer.the-variants.{Accepted, InvalidSequenceHeader, InvalidTileInfo, InvalidTrailingBits}
-use Rattle.answers.specs.declared.Answer.the-variants.{WrongArguments, ShortBuffer, TooManyTiles, InvalidFilmGrainData}
+use Rattle.answers.specs.declared.Answer.the-variants.{WrongArguments, ShortBuffer, TooManyTiles, InvalidFilmGrainData, NoSuchLayout}
 use Rattle.getbits.proofs.Chain.{taken, left}
 use Rattle.getbits.specs.declared.Place.{Place}
 use Rattle.tile_layout.specs.Demand3.{Demand3, AcceptedLayout}
@@ -30,6 +30,7 @@ answer-back WrongArguments = refl
 answer-back ShortBuffer = refl
 answer-back TooManyTiles = refl
 answer-back InvalidFilmGrainData = refl
+answer-back NoSuchLayout = refl
 
 -- a buffer that is too short gives 5, and nothing that was lent changes
 pub tiles-short : (read : Place → TileInfo → TileRead) (position error : ℕ) (b : Buffers) → hasRoom b ≡ false

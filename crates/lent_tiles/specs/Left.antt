@@ -3,7 +3,7 @@ use Prim.Native.Nat.{ℕ}
 use lib.Dec.{eqb}
 use Rattle.answers.specs.declared.Answer.{Answer}
 use Rattle.answers.specs.declared.Answer.the-variants.{Accepted, InvalidSequenceHeader, InvalidTileInfo, InvalidTrailingBits}
-use Rattle.answers.specs.declared.Answer.the-variants.{WrongArguments, ShortBuffer, TooManyTiles, InvalidFilmGrainData}
+use Rattle.answers.specs.declared.Answer.the-variants.{WrongArguments, ShortBuffer, TooManyTiles, InvalidFilmGrainData, NoSuchLayout}
 use Rattle.getbits.specs.Chain.{pick}
 use Rattle.getbits.specs.declared.Place.{Place}
 use Rattle.tile_layout.specs.declared.TileRead.{TileRead}
@@ -16,7 +16,8 @@ use Rattle.flat.specs.Layout.{Buffers, layoutIn}
 abbrev pub answerOf : ℕ → Answer
 answerOf n =
     pick (eqb n 0) Accepted (pick (eqb n 1) InvalidSequenceHeader (pick (eqb n 2) InvalidTileInfo (pick (eqb n 3) InvalidTrailingBits
-    (pick (eqb n 4) WrongArguments (pick (eqb n 5) ShortBuffer (pick (eqb n 6) TooManyTiles InvalidFilmGrainData))))))
+    (pick (eqb n 4) WrongArguments (pick (eqb n 5) ShortBuffer (pick (eqb n 6) TooManyTiles
+    (pick (eqb n 7) InvalidFilmGrainData NoSuchLayout)))))))
 
 -- the layout that a call leaves
 abbrev pub tilesLeft : ℕ → Buffers → Place → TileRead

@@ -21,6 +21,9 @@ use Rattle.seq_hdr.specs.Header.{readStart, refusedHeader, checkTrailingBits, r
 use Rattle.superblocks.specs.Counts.{multiplierOf, fitsUniform}
 use Rattle.frame_hdr.specs.Frame.{startsLow, usableTiles, usable, inFrameDomain, frameCode, reuseAllowed, askReuse, readReuse, reusedStarts, reusedInfo, parseTileInfoFrmhdr}
 use Rattle.rectangles.specs.Rectangles.{rising, hasRectangles, each, rectangles, tileRectangles}
+use Rattle.layout_bits.specs.Rows.{bytesOf}
+use Rattle.layout_bits.specs.Bits.{bitsOf, uniformCode, onesCode, logsCode, sizesCode, sidesCode, layoutBits}
+use Rattle.tile_write.specs.Write.{sameList, sameNumbers, sameLayout, readsAs, writeTileInfo}
 use Rattle.readings.specs.Readings.{Row, answerTo, Holds, table, EveryRowHolds}
 
 -- every row of a list holds
@@ -40,7 +43,8 @@ unfolding Every answerTo table leadingZeros then turns bitsAt position readBits 
     readRestoration readFilters tileInfoIf readTiling readStart refusedHeader checkTrailingBits readGroups readHead parseSeqHdr
     multiplierOf fitsUniform startsLow usableTiles usable inFrameDomain frameCode reuseAllowed askReuse readReuse reusedStarts reusedInfo parseTileInfoFrmhdr
     rising hasRectangles each rectangles tileRectangles
-computed = (refl, (refl, (refl, (refl, (refl, (refl, (refl, (refl, (refl, (refl, (refl, (refl, (refl, (refl, (refl, (refl, (refl, tt)))))))))))))))))
+    bytesOf bitsOf uniformCode onesCode logsCode sizesCode sidesCode layoutBits sameList sameNumbers sameLayout readsAs writeTileInfo
+computed = (refl, (refl, (refl, (refl, (refl, (refl, (refl, (refl, (refl, (refl, (refl, (refl, (refl, (refl, (refl, (refl, (refl, (refl, (refl, (refl, (refl, (refl, (refl, tt)))))))))))))))))))))))
 
 -- a row that is in the list is one of them
 among : (l : List Row) → Every l → (r : Row) → List·Memᴰ r l → Holds r

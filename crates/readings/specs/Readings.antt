@@ -25,14 +25,16 @@ use Rattle.frame_hdr.specs.declared.FrameRead.{FrameRead}
 use Rattle.frame_hdr.specs.declared.FrameType.the-variants.{Inter}
 use Rattle.frame_hdr.specs.declared.SeqLayout.{SeqLayout}
 use Rattle.rectangles.specs.Rectangles.{rectangleNumbers, tileRectangles}
+use Rattle.tile_write.specs.Write.{writeTileInfo}
 
 -- what is read: bytes as a layout for these arguments, or bytes as a sequence header; the rectangles of such a layout, in its own frame or in another that
--- reuses it
+-- reuses it; or such a layout written again
 pub data Question : Type 0 where
   layout : TileArgs → List ℕ → Question
   header : (strict : Bool) → List ℕ → Question
   rectanglesOf : TileArgs → List ℕ → Question
   rectanglesReused : (width height : ℕ) → TileArgs → List ℕ → Question
+  written : TileArgs → List ℕ → Question
 
 -- an accepted layout: what the tile program prints, in its order, and the columns' logarithm;
 -- document 01 names a part of it in each row
@@ -47,12 +49,14 @@ pub record Tiles : Type 0 where
   pub rowStarts : List ℕ
   pub log2Cols : ℕ
 
--- what comes of it: a refusal by its number, an accepted layout, an accepted header's largest frame and sample layout, or rectangles
+-- what comes of it: a refusal by its number, an accepted layout, an accepted header's largest frame and sample layout, rectangles, or how many bits are
+-- written and their bytes
 pub data Result : Type 0 where
   refusedWith : ℕ → Result
   tiles : Tiles → Result
   picture : (width height : ℤ) → PixelLayout → Result
   numbers : List ℕ → Result
+  bits : ℕ → List ℕ → Result
 
 -- the result of a layout read from the bytes s
 abbrev pub layoutResult : List ℕ → TileRead → Result
@@ -82,6 +86,13 @@ rectanglesResult z t code w h =
     then (tileRectangles t code w h (replicate (rectangleNumbers t) 0)) λ r.
     pick (isRefusal (r .0)) (refusedWith (numberOf (r .0))) (numbers (r .1)))
 
+-- the result of a layout read that is written again, into a buffer of one byte
+abbrev pub writtenResult : TileArgs → TileRead → Result
+writtenResult a z =
+    pick (isRefusal (z .answer)) (refusedWith (numberOf (z .answer))) (
+    then (writeTileInfo a (z .info) (0 ∷ [])) λ w.
+    pick (isRefusal (w .0 .answer)) (refusedWith (numberOf (w .0 .answer))) (bits (w .0 .bits) (w .1)))
+
 -- the layout read from s, over the zero layout
 abbrev pub layoutFrom : TileArgs → List ℕ → TileRead
 layoutFrom a s = parseTileInfo s (placeAt 0 false) noTileInfo a
@@ -103,12 +114,14 @@ sequenceWith a s =
 abbrev pub frameIn : SeqLayout → ℕ → ℕ → FrameRead
 frameIn q w h = parseTileInfoFrmhdr [] (placeAt 0 false) (record { «frame_type» = Inter; width = pos w; height = pos h; sb128 = 0; tiling = noTileInfo }) q
 
--- what parse_tile_info, parse_seq_hdr and parse_tile_info_frmhdr are proved to answer, each from the first bit, and tile_rectangles of a layout
+-- what parse_tile_info, parse_seq_hdr and parse_tile_info_frmhdr are proved to answer, each from the first bit, and tile_rectangles and write_tile_info of a
+-- layout
 unfoldable pub answerTo : Question → Result
 answerTo (layout a s) = layoutResult s (layoutFrom a s)
 answerTo (header strict s) = headerResult (parseSeqHdr s (placeAt 0 false) strict)
 answerTo (rectanglesOf a s) = then (layoutFrom a s) λ r. rectanglesResult (r .answer) (r .info) (a .«frame_code») (a .width) (a .height)
 answerTo (rectanglesReused w h a s) = then (frameIn (sequenceWith a s) w h) λ r. rectanglesResult (r .answer) (r .hdr .tiling) (r .hdr .sb128) w h
+answerTo (written a s) = writtenResult a (layoutFrom a s)
 
 -- a reading: what is read, and what document 01 or the request says comes of it
 pub record Row : Type 0 where
@@ -194,6 +207,16 @@ table =
     gives numbers (0 ∷ 0 ∷ 128 ∷ 64 ∷ 128 ∷ 0 ∷ 64 ∷ 64 ∷ 192 ∷ 0 ∷ 64 ∷ 64 ∷ 256 ∷ 0 ∷ 74 ∷ 64 ∷ [])
     -- A reused layout may then have a tile of width 0: that of a sequence 256 wide with the starts 0 2 4, in a frame 128 wide.
     ∷ rectanglesReused 128 64 (frame 256 64) (0xC0 ∷ []) gives numbers (0 ∷ 0 ∷ 128 ∷ 64 ∷ 128 ∷ 0 ∷ 0 ∷ 64 ∷ [])
+    -- #106: 1110, 1111 and 00110 all give columns 0 2 4 5, and each is written again as it was.
+    ∷ layout (frameOfPair12 600 128) (0xE0 ∷ [])
+    gives ok true 3 1 4 false (0 ∷ 2 ∷ 4 ∷ 5 ∷ []) (0 ∷ 1 ∷ []) 2
+    ∷ layout (frameOfPair12 600 128) (0xF0 ∷ [])
+    gives ok true 3 1 4 false (0 ∷ 2 ∷ 4 ∷ 5 ∷ []) (0 ∷ 1 ∷ []) 3
+    ∷ layout (frameOfPair12 600 128) (0x30 ∷ [])
+    gives ok false 3 1 5 false (0 ∷ 2 ∷ 4 ∷ 5 ∷ []) (0 ∷ 1 ∷ []) 2
+    ∷ written (frameOfPair12 600 128) (0xE0 ∷ []) gives bits 4 (0xE0 ∷ [])
+    ∷ written (frameOfPair12 600 128) (0xF0 ∷ []) gives bits 4 (0xF0 ∷ [])
+    ∷ written (frameOfPair12 600 128) (0x30 ∷ []) gives bits 5 (0x30 ∷ [])
     ∷ []
 
 -- the claim: every row of the table holds

@@ -12,6 +12,7 @@ ghost use Rattle.superblocks.specs.Counts.{multiplierOf, sizeOf, fitsUni
 use codes::get_uniform;
 use getbits::Place;
 use getbits::power;
+use tile_layout::start_at;
 
 mod quotient;
 
@@ -44,6 +45,12 @@ pub struct Split {
 
 // The starts of a sequence's layout.
 pub struct SeqStarts([u16; 65]);
+
+// A size as get_uniform has it: a number below max.
+pub struct SizeNumber {
+    pub max: u32,
+    pub value: u32,
+}
 
 // The size of a column or a row, and the place behind it.
 pub struct TileSize {
@@ -399,6 +406,25 @@ pub fn read_size(s: &[u8], p: Place, rest: FrameSb, limit: FrameSb) -> TileSize
             used: next.used,
             error: next.error,
         },
+    }
+}
+
+// The size of tile i of a frame's layout: the next start, or the closing one, less its own; 0 where that is below 0.
+pub fn size_at(starts: &[u16], i: u8) -> FrameSb
+    ensures { λ r. ⌜ (r .0 ≡ getD (now (starts .entry)) (i + 1) 0 - getD (now (starts .entry)) i 0) × (r .0 < 65536) ⌝ }
+{
+    let start = start_at(starts, i as usize);
+    let next = start_at(starts, i as usize + 1);
+    FrameSb(next as u32).minus(FrameSb(start as u32))
+}
+
+// The number that read_size reads a size from, where `rest` superblocks remain.
+pub fn size_number(size: FrameSb, rest: FrameSb, limit: FrameSb) -> SizeNumber
+    ensures { λ r. ⌜ (r .max ≡ min (rest .0) (limit .0)) × (r .value ≡ size .0 - 1) ⌝ }
+{
+    SizeNumber {
+        max: umin(rest.0, limit.0),
+        value: umax(1, size.0) - 1,
     }
 }
 

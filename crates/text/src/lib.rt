@@ -112,7 +112,7 @@ fn u16_to_u64(x: u16) -> u64
 }
 
 // A number, and a blank in front of it unless it is the first.
-fn put_item(out: &mut [u8], at: usize, n: u64, first: bool) -> usize
+pub fn put_item(out: &mut [u8], at: usize, n: u64, first: bool) -> usize
     ensures { λ r. ⌜ Put 21 (now (out .entry)) at (pick first (decimal n) (blank ∷ decimal n)) (now (out .exit)) r ⌝ }
 {
     if first {

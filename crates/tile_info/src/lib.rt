@@ -1,26 +1,27 @@
 // The tile layout of a frame.
 ghost use mathlib.Core.Path.{_≡_};
 ghost use mathlib.Core.Bool.{true};
-ghost use Rattle.tile_layout.specs.Limits.{argsOf, inDomain};
-ghost use Rattle.tile_layout.specs.Layout.{uniformLayout, invalidTileInfo, nonUniformLayout, parseTileInfo};
+ghost use Rattle.getbits.specs.Chain.{pick};
+ghost use Rattle.tile_layout.specs.Limits.{argsOf, inDomain, sbw, sbh, widthLimit};
+ghost use Rattle.tile_layout.specs.Layout.{rowLimit, uniformLayout, invalidTileInfo, nonUniformLayout, parseTileInfo};
 ghost use Rattle.tile_layout.specs.Demand3.{Demand3};
 ghost use Rattle.tile_info.specs.Inner.{Known};
 use answers::Answer;
 use getbits::Place;
 use getbits::get_bit;
 use getbits::read_bits;
+use superblocks::FrameSb;
 use tile_layout::TileArgs;
 use tile_layout::TileInfo;
 use tile_layout::TileRead;
+use tile_layout::in_domain;
+use tile_layout::tile_args;
 
-mod domain;
 mod intops;
 mod limits;
 mod nonuniform;
 mod uniform;
 
-use domain::in_domain;
-use domain::tile_args;
 use intops::usub;
 use limits::FrameLimits;
 use limits::frame_limits;
@@ -28,6 +29,47 @@ use nonuniform::max_tile_height_sb;
 use nonuniform::read_tiles;
 use uniform::read_log2;
 use uniform::uniform_starts;
+
+// What the sizes of a non-uniform layout fill, and the most that one may be.
+pub struct SizeBounds {
+    pub total: FrameSb,
+    pub limit: FrameSb,
+}
+
+fn no_bounds() -> SizeBounds
+    ensures { λ r. ⌜ (r .total .0 ≡ 0) × (r .limit .0 ≡ 0) ⌝ }
+{
+    SizeBounds {
+        total: FrameSb::none(),
+        limit: FrameSb::none(),
+    }
+}
+
+// Of the columns. Outside the domain both are 0.
+pub fn col_bounds(a: TileArgs) -> SizeBounds
+    ensures { λ r. ⌜ (r .total .0 ≡ pick (inDomain a) (sbw a) 0) × (r .limit .0 ≡ pick (inDomain a) (widthLimit a) 0) ⌝ }
+{
+    if in_domain(a) {
+        let k = frame_limits(a);
+        let total = k.sbw;
+        let limit = k.max_tile_width_sb;
+        return SizeBounds { total, limit };
+    }
+    no_bounds()
+}
+
+// Of the rows, beside a column of `widest_tile`.
+pub fn row_bounds(a: TileArgs, widest_tile: FrameSb) -> SizeBounds
+    ensures { λ r. ⌜ (r .total .0 ≡ pick (inDomain a) (sbh a) 0) × (r .limit .0 ≡ pick (inDomain a) (rowLimit a («widest_tile» .0)) 0) ⌝ }
+{
+    if in_domain(a) {
+        let k = frame_limits(a);
+        let total = k.sbh;
+        let limit = max_tile_height_sb(a, k, widest_tile);
+        return SizeBounds { total, limit };
+    }
+    no_bounds()
+}
 
 // The uniform rule, from behind the flag.
 fn uniform_layout(s: &[u8], p: Place, thdr: TileInfo, a: TileArgs, k: FrameLimits) -> TileRead

@@ -13,19 +13,19 @@ use Rattle.tile_layout.specs.Layout.{tabulate, over, sum}
 pub times-next : (m i : ℕ) → m * (i + 1) ≡ m * i + m
 times-next m i = ap (_*_ m) (add-one i) ∙ mul-suc m i
 
-length-tabulate : (f : ℕ → ℕ) (i n : ℕ) → length (tabulate f i n) ≡ n
+pub length-tabulate : (f : ℕ → ℕ) (i n : ℕ) → length (tabulate f i n) ≡ n
 unfolding tabulate
 length-tabulate f i zero = refl
 length-tabulate f i (suc n) = ap suc (length-tabulate f (suc i) n)
 
-getD-tabulate : (f : ℕ → ℕ) (i n k : ℕ) → k < n → getD (tabulate f i n) k 0 ≡ f (i + k)
+pub getD-tabulate : (f : ℕ → ℕ) (i n k : ℕ) → k < n → getD (tabulate f i n) k 0 ≡ f (i + k)
 unfolding tabulate
 getD-tabulate f i zero k h = absurd (omega arith)
 getD-tabulate f i (suc n) zero h = ap f (sym (add-zero i))
 getD-tabulate f i (suc n) (suc k) h = getD-tabulate f (suc i) n k (omega arith) ∙ ap f (omega arith)
 
 -- one more at the end
-tabulate-more : (f : ℕ → ℕ) (i n : ℕ) → tabulate f i (suc n) ≡ tabulate f i n ++ (f (i + n) ∷ [])
+pub tabulate-more : (f : ℕ → ℕ) (i n : ℕ) → tabulate f i (suc n) ≡ tabulate f i n ++ (f (i + n) ∷ [])
 unfolding tabulate
 tabulate-more f i zero = ap (λ (k : ℕ). f k ∷ []) (sym (add-zero i))
 tabulate-more f i (suc n) =

@@ -1,7 +1,7 @@
-// The records of a tile layout.
+// The records of a tile layout, and the domain of its arguments.
 ghost use mathlib.Core.Path.{_≡_};
 ghost use lib.ListN.{getD};
-ghost use Rattle.tile_layout.specs.Limits.{unsigned, isSize, noTileInfo};
+ghost use Rattle.tile_layout.specs.Limits.{unsigned, argsOf, isSize, isPair, inDomain, noTileInfo};
 use answers::Answer;
 use getbits::Place;
 
@@ -53,6 +53,44 @@ pub fn is_size(n: u32) -> bool
     ensures { λ r. ⌜ r ≡ isSize n ⌝ }
 {
     (1 <= n) & (n <= 65536)
+}
+
+pub fn tile_args(
+    sbmul: i32,
+    sb128: u8,
+    seq_sb128: u8,
+    w: i32,
+    h: i32,
+    level: u8,
+    tier: u8,
+) -> TileArgs
+    ensures { λ r. ⌜ r ≡ argsOf sbmul sb128 «seq_sb128» w h level tier ⌝ }
+{
+    TileArgs {
+        multiplier: not_below_0(sbmul),
+        frame_code: sb128,
+        seq_code: seq_sb128,
+        width: not_below_0(w),
+        height: not_below_0(h),
+        level,
+        tier,
+    }
+}
+
+fn is_pair(f: u8, q: u8, m: u32) -> bool
+    ensures { λ r. ⌜ r ≡ isPair f q m ⌝ }
+{
+    ((f <= 2) & (f == q) & (m == 1)) | ((f == 1) & (q == 2) & (m == 2))
+}
+
+pub fn in_domain(a: TileArgs) -> bool
+    ensures { λ r. ⌜ r ≡ inDomain a ⌝ }
+{
+    is_size(a.width)
+        & is_size(a.height)
+        & (a.level <= 31)
+        & (a.tier <= 1)
+        & is_pair(a.frame_code, a.seq_code, a.multiplier)
 }
 
 // The start at i, and 0 past the end.

@@ -1,4 +1,4 @@
-// What the programs tile, panel and rects share: a request with tiling bits in bytes, and the text of a layout read.
+// What the programs tile, panel, rects and write share: a request with tiling bits in bytes, and the text of a layout read.
 ghost use mathlib.Core.Path.{_≡_};
 ghost use Prim.Native.Nat.{_+_};
 ghost use lib.IntN.{pos};
@@ -31,7 +31,7 @@ pub fn samples(s: &[u8], i: usize) -> i32
 }
 
 // The multiplier that belongs to a pair of codes.
-fn multiplier(sb128: u8, seq_sb128: u8) -> i32
+pub fn multiplier(sb128: u8, seq_sb128: u8) -> i32
     ensures { λ r. ⌜ r ≡ pos (multiplierOf sb128 «seq_sb128») ⌝ }
 {
     multiplier_of(sb128, seq_sb128) as i32

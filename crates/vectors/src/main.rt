@@ -23,6 +23,7 @@ use capi_bits::mubanlig_remaining_bytes;
 use capi_grain::mubanlig_parse_film_grain_data;
 use capi_within::mubanlig_parse_tile_info_frmhdr_within;
 use capi_within::mubanlig_parse_tile_info_within;
+use capi_write::mubanlig_write_tile_info;
 use codes::get_uleb128;
 use getbits::Place;
 use libc::STDOUT_FILENO;
@@ -44,8 +45,8 @@ struct RowNumber {
 
 // How many cases of each operation were replayed, and how many agree.
 struct Tally {
-    replayed: [u32; 20],
-    agree: [u32; 20],
+    replayed: [u32; 21],
+    agree: [u32; 21],
 }
 
 struct Verdict {
@@ -190,6 +191,18 @@ fn numbers_from(first: u32) -> [u32; 450] {
         k += 1;
     }
     numbers
+}
+
+// Bytes from the first one on; 0 follows 255.
+fn bytes_from(first: u32) -> [u8; 256] {
+    let low = first % 256;
+    let mut bytes = [0u8; 256];
+    let mut k: usize = 0;
+    while k < 256 {
+        bytes[k] = ((low + k as u32) % 256) as u8;
+        k += 1;
+    }
+    bytes
 }
 
 fn store(out: &mut [i64], i: usize, n: i64)
@@ -632,6 +645,54 @@ fn replay_rectangles(args: &[u32], out: &mut [i64]) -> usize
     1 + len
 }
 
+fn lend_writing(
+    args: &[u32],
+    info: &[u8],
+    cols: &[u16],
+    rows: &[u16],
+    bytes: &mut [u8],
+    len: usize,
+    bits: &mut u32,
+) -> u32 {
+    let a = held_at(args, 148, info.len());
+    let b = held_at(args, 149, cols.len());
+    let c = held_at(args, 150, rows.len());
+    if len <= bytes.len() {
+        return mubanlig_write_tile_info(
+            &info[..a],
+            &cols[..b],
+            &rows[..c],
+            i32_at(args, 139),
+            u8_at(args, 140),
+            u8_at(args, 141),
+            i32_at(args, 142),
+            i32_at(args, 143),
+            u8_at(args, 144),
+            u8_at(args, 145),
+            &mut bytes[..len],
+            &mut *bits,
+        );
+    }
+    255
+}
+
+// The answer and how many bits, then the bytes lent; how many numbers these are in all.
+fn replay_writing(args: &[u32], out: &mut [i64]) -> usize
+    ensures { λ r. ⌜ r ≤ 512 ⌝ }
+{
+    let info = info_at(args, 0);
+    let cols = starts_at(args, 9);
+    let rows = starts_at(args, 74);
+    let mut bytes = bytes_from(u32_at(args, 147));
+    let mut bits: u32 = 7;
+    let len = held_at(args, 146, 256);
+    let answer = lend_writing(args, &info, &cols, &rows, &mut bytes, len, &mut bits);
+    store(&mut *out, 0, answer as i64);
+    store(&mut *out, 1, u32_to_i64(bits));
+    store_bytes(&mut *out, 2, &bytes, len);
+    2 + len
+}
+
 // The value of a reading.
 fn replay_reading(kind: u32, s: &[u8], position: &mut usize, error: &mut u8, args: &[u32]) -> i64 {
     let p = &mut *position;
@@ -726,6 +787,9 @@ fn replay_kind(kind: u32, s: &[u8], place: &[u32], args: &[u32], out: &mut [i64]
     }
     if kind == 16 {
         return replay_rectangles(args, &mut *out);
+    }
+    if kind == 20 {
+        return replay_writing(args, &mut *out);
     }
     let value = replay_value(kind, s, &mut position, &mut error, args, &mut *out);
     store(&mut *out, 0, value);
@@ -850,14 +914,14 @@ fn replay(case: &[u8]) -> Verdict {
         }
     }
     Verdict {
-        kind: 20,
+        kind: 21,
         agrees: false,
     }
 }
 
-fn one_more(counts: [u32; 20], i: usize) -> [u32; 20] {
+fn one_more(counts: [u32; 21], i: usize) -> [u32; 21] {
     let mut after = counts;
-    if i < 20 {
+    if i < 21 {
         if counts[i] < 0xffff_ffff {
             after[i] = counts[i] + 1;
         }
@@ -869,7 +933,7 @@ fn counted(t: Tally, v: Verdict) -> Tally {
     let old_replayed = t.replayed;
     let old_agree = t.agree;
     let replayed = one_more(old_replayed, v.kind);
-    let agree = one_more(old_agree, if v.agrees { v.kind } else { 20 });
+    let agree = one_more(old_agree, if v.agrees { v.kind } else { 21 });
     Tally { replayed, agree }
 }
 
@@ -897,7 +961,7 @@ fn replay_first(case: &[u8], size: usize) -> Verdict {
         return replay(&case[..size]);
     }
     Verdict {
-        kind: 20,
+        kind: 21,
         agrees: false,
     }
 }
@@ -963,7 +1027,8 @@ fn print_operation(kind: usize) {
         16 => print(b"tile_rectangles"),
         17 => print(b"parse_tile_info_within"),
         18 => print(b"parse_tile_info_frmhdr_within"),
-        _ => print(b"parse_film_grain_data"),
+        19 => print(b"parse_film_grain_data"),
+        _ => print(b"write_tile_info"),
     }
 }
 
@@ -989,10 +1054,10 @@ fn print_line(t: Tally, kind: usize) -> bool {
 
 // A line for each operation. Could the last be written?
 fn print_tally(t: Tally) -> bool {
-    for kind in 0..19 {
+    for kind in 0..20 {
         print_line(t, kind);
     }
-    print_line(t, 19)
+    print_line(t, 20)
 }
 
 fn main() {
@@ -1002,8 +1067,8 @@ fn main() {
         return;
     }
     let none = Tally {
-        replayed: [0; 20],
-        agree: [0; 20],
+        replayed: [0; 21],
+        agree: [0; 21],
     };
     report_written(print_tally(replay_all(fd, none)));
     libc::close(fd);

@@ -3,8 +3,8 @@
 use crate::case::{Case, Outcome, Place};
 use crate::kind::Kind;
 use crate::records::{GRAIN, HEADER, SEG, TILE};
-use crate::rectangles;
 use crate::rule::Rule;
+use crate::{rectangles, writing};
 
 /// What stands in each number that is lent for a header or for film grain parameters.
 const LENT: i64 = 7;
@@ -15,6 +15,7 @@ pub fn decided(case: &Case, out: &mut Outcome) -> bool {
     match case.kind {
         kind if is_short(kind, &case.lent) => short(case, out),
         Kind::TileRectangles => rectangles::rectangles(a, out),
+        Kind::WriteTileInfo => writing::write(case, out),
         Kind::ParseTileInfo | Kind::ParseTileInfoWithin if !in_domain(&a[TILE..]) => {
             outside_domain(case, out);
         }
@@ -56,6 +57,7 @@ fn lent_record(case: &Case, out: &mut Outcome) {
         Kind::ParseFilmGrainData => out.record.resize(GRAIN, LENT),
         Kind::ParseSegInfo => out.record.extend(&a[..SEG]),
         Kind::TileRectangles => rectangles::lent(a, out),
+        Kind::WriteTileInfo => writing::lent(a, out),
         _ => out.record.extend(case.given()),
     }
 }
@@ -83,7 +85,7 @@ fn is_size(n: i64) -> bool {
 }
 
 /// Multiplier, frame code, sequence code, width, height, level, tier.
-fn in_domain(b: &[i64]) -> bool {
+pub fn in_domain(b: &[i64]) -> bool {
     matches!(
         (b[0], b[1], b[2]),
         (1, 0, 0) | (1, 1, 1) | (1, 2, 2) | (2, 1, 2)

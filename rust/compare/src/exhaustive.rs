@@ -3,6 +3,7 @@
 use crate::case::{Case, Place};
 use crate::kind::Kind;
 use crate::make::layouts::PAIRS;
+use crate::make::writing::give_layout;
 use crate::records::{SEG, TILE};
 
 /// Every input of some lengths, from every place, with every row of arguments.
@@ -67,6 +68,14 @@ impl Exhaustive {
             Kind::ParseTileInfoFrmhdrWithin => {
                 vec![block(limited(frame_args(), &LIMITS), few_places())]
             }
+            Kind::WriteTileInfo => {
+                let mut args = layout_args(&[14], &[[256, 128], [1150, 600]]);
+                for row in &mut args {
+                    row[..TILE].fill(0);
+                    row.extend([3, 0xA5]);
+                }
+                vec![block(args, vec![Place::default()])]
+            }
             Kind::ParseTileInfo => vec![
                 block(layout_args(&[0, 14, 18], &SIZES), few_places()),
                 Block {
@@ -87,7 +96,11 @@ impl Exhaustive {
     pub fn fill(&self, mut index: u64, case: &mut Case) {
         for block in &self.blocks {
             if index < block.cases() {
-                return block.fill(index, case);
+                block.fill(index, case);
+                if case.kind == Kind::WriteTileInfo {
+                    give_layout(case);
+                }
+                return;
             }
             index -= block.cases();
         }

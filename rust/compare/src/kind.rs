@@ -24,6 +24,7 @@ pub enum Kind {
     ParseTileInfoWithin,
     ParseTileInfoFrmhdrWithin,
     ParseFilmGrainData,
+    WriteTileInfo,
     /// Several readings by one reader.
     Rows,
     /// The Rust's own callers of the reader, over both readers.
@@ -31,8 +32,8 @@ pub enum Kind {
 }
 
 impl Kind {
-    /// In the order of their numbers in the stored list, which has the first 20.
-    pub const ALL: [Self; 22] = [
+    /// In the order of their numbers in the stored list, which has the first 21.
+    pub const ALL: [Self; 23] = [
         Self::GetBit,
         Self::GetBits,
         Self::GetSbits,
@@ -53,6 +54,7 @@ impl Kind {
         Self::ParseTileInfoWithin,
         Self::ParseTileInfoFrmhdrWithin,
         Self::ParseFilmGrainData,
+        Self::WriteTileInfo,
         Self::Rows,
         Self::Callers,
     ];
@@ -60,7 +62,7 @@ impl Kind {
     /// The readings that answer a number, and bytealign.
     pub const READINGS: usize = 11;
     /// The kinds that the stored list has.
-    pub const STORED: usize = 20;
+    pub const STORED: usize = 21;
 
     pub fn number(self) -> u64 {
         self as u64
@@ -89,6 +91,7 @@ impl Kind {
             Self::ParseTileInfoWithin => "parse_tile_info_within",
             Self::ParseTileInfoFrmhdrWithin => "parse_tile_info_frmhdr_within",
             Self::ParseFilmGrainData => "parse_film_grain_data",
+            Self::WriteTileInfo => "write_tile_info",
             Self::Callers => "callers",
         }
     }
@@ -107,6 +110,7 @@ impl Kind {
                 | Self::ParseSegInfo
                 | Self::TileRectangles
                 | Self::ParseFilmGrainData
+                | Self::WriteTileInfo
         ) || self.is_limited()
     }
 
@@ -121,7 +125,10 @@ impl Kind {
     /// The full lengths of the buffers that are lent beside the data.
     pub fn full_lengths(self) -> &'static [i64] {
         match self {
-            Self::ParseTileInfo | Self::ParseTileInfoWithin | Self::TileRectangles => &[9, 65, 65],
+            Self::ParseTileInfo
+            | Self::ParseTileInfoWithin
+            | Self::TileRectangles
+            | Self::WriteTileInfo => &[9, 65, 65],
             Self::ParseSeqHdr => &[146, 9, 65, 65],
             Self::ParseTileInfoFrmhdr | Self::ParseTileInfoFrmhdrWithin => &[9, 65, 65, 9, 65, 65],
             Self::ParseSegInfo => &[16, 3],

@@ -40,12 +40,16 @@ mod theirs;
 #[cfg(feature = "ours")]
 pub mod wrong;
 
-// The rules that stand beside the Rust's reading, from the files that the build script names: of a limit, and of rectangles.
+// The rules that stand beside the Rust's reading, from the files that the build script names: of a limit, of rectangles, and of
+// writing.
 pub mod within {
     include!(env!("WITHIN_RULE"));
 }
 mod rectangles {
     include!(env!("RECTANGLES_RULE"));
+}
+mod writing {
+    include!(env!("WRITING_RULE"));
 }
 
 // The Rust's callers name these by their paths in its crate.

@@ -19,7 +19,7 @@ Compares the proved library with the Rust.
   --short           20000 random cases of each kind and all inputs of up to one byte: seconds
   --vectors FILE    write the stored list of the Rust's answers
   --replay FILE     replay a stored list on the Rust; the last line is 'N of M stored answers differ'
-  --wrong-versions FILE   replay a stored list on each wrong version (wrong.tsv) of the Rust and of the rule of a limit, and print a table";
+  --wrong-versions FILE   replay a stored list on each wrong version (wrong.tsv) of the Rust and of the rules, and print a table";
 
 #[derive(Debug)]
 pub struct Options {

@@ -3,7 +3,8 @@
 use crate::callers;
 use crate::case::{Case, Outcome, Place};
 use crate::kind::Kind;
-use crate::records::{Numbers, SEG, TILE, from::ours as from};
+use crate::records::{Numbers, SEG, TILE, from::ours as from, trimmed};
+use crate::theirs::fresh_layout;
 use mubanlig::{Error, GetBits, TileLimit};
 
 pub fn run(case: &Case, out: &mut Outcome) {
@@ -57,6 +58,7 @@ pub fn run(case: &Case, out: &mut Outcome) {
             text.numbers(&mut out.record);
         }
         Kind::TileRectangles => return tile_rectangles(a, out),
+        Kind::WriteTileInfo => return write_tile_info(a, out),
         kind => out.answer = reading(kind, gb, a),
     }
     let mubanlig::Place { byte, used, error } = gb.place();
@@ -133,4 +135,27 @@ fn tile_rectangles(a: &[i64], out: &mut Outcome) {
         &mut buffer,
     ));
     out.record.extend(buffer.iter().map(|&n| i64::from(n)));
+}
+
+/// What is written is read back by the Rust.
+fn write_tile_info(a: &[i64], out: &mut Outcome) {
+    let t = from::tile_info(a);
+    let b = &a[TILE..];
+    let [sbmul, w, h] = [b[0], b[3], b[4]].map(|n| n as i32);
+    let [sb128, seq_sb128, level, tier] = [b[1], b[2], b[5], b[6]].map(|n| n as u8);
+    let mut buffer: Vec<u8> = (0..b[7]).map(|i| (b[8] + i) as u8).collect();
+    let written =
+        mubanlig::write_tile_info(&t, sbmul, sb128, seq_sb128, w, h, level, tier, &mut buffer);
+    out.record.push(written.unwrap_or(0) as i64);
+    out.record
+        .extend(buffer.iter().map(|&byte| i64::from(byte)));
+    match written {
+        Ok(_) => {
+            if let Some((read, used)) = fresh_layout(b, &buffer) {
+                out.record.push(used as i64);
+                out.record.extend(trimmed(&read));
+            }
+        }
+        Err(refusal) => out.answer = i64::from(refusal.number()),
+    }
 }

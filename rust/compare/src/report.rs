@@ -37,9 +37,9 @@ pub fn summary(tallies: &[(Kind, Tally)]) -> String {
 fn outcomes(text: &mut String, tallies: &[(Kind, Tally)]) -> std::fmt::Result {
     writeln!(
         text,
-        "| kind | cases | accepted | 1 | 2 | 3 | 4 | 5 | 6 | 7 | reader's error | known differences |"
+        "| kind | cases | accepted | 1 | 2 | 3 | 4 | 5 | 6 | 7 | 8 | reader's error | known differences |"
     )?;
-    writeln!(text, "|---|{}", "---:|".repeat(11))?;
+    writeln!(text, "|---|{}", "---:|".repeat(12))?;
     for (kind, tally) in tallies {
         write!(
             text,
@@ -166,12 +166,16 @@ fn record_names(kind: Kind) -> Vec<String> {
         Kind::ParseSeqHdr => header_names(),
         Kind::ParseSegInfo => seg_names(),
         Kind::ParseFilmGrainData => grain_names(),
+        Kind::WriteTileInfo => vec!["bits".to_string()],
         Kind::ParseTileInfoFrmhdr | Kind::ParseTileInfoFrmhdrWithin => {
             [vec!["sb128".to_string()], tile_names()].concat()
         }
         _ => vec![],
     }
 }
+
+/// The names of the arguments that a layout is read with, or written for.
+const READ_WITH: [&str; 7] = ["sbmul", "sb128", "seq_sb128", "w", "h", "level", "tier"];
 
 /// The names of a limit's numbers, which a kind without a limit has not.
 const LIMIT: [&str; 2] = ["max_cols", "max_rows"];
@@ -195,10 +199,13 @@ fn arg_names(kind: Kind) -> Vec<String> {
         Kind::ParseSeqHdr => plain(&["strict"]),
         Kind::ParseFilmGrainData => plain(&["layout"]),
         Kind::ParseSegInfo => [seg_names(), plain(&["ext"])].concat(),
-        Kind::ParseTileInfo | Kind::ParseTileInfoWithin => [
-            layout("given "),
-            plain(&["sbmul", "sb128", "seq_sb128", "w", "h", "level", "tier"]),
-            plain(&LIMIT),
+        Kind::ParseTileInfo | Kind::ParseTileInfoWithin => {
+            [layout("given "), plain(&READ_WITH), plain(&LIMIT)].concat()
+        }
+        Kind::WriteTileInfo => [
+            layout(""),
+            plain(&READ_WITH),
+            plain(&["buffer's length", "buffer's first byte"]),
         ]
         .concat(),
         Kind::ParseTileInfoFrmhdr | Kind::ParseTileInfoFrmhdrWithin => [

@@ -16,10 +16,12 @@ pub enum Rule {
     Short,
     /// More columns or rows than the limit: 6, and the record given comes back. The Rust knows no limit.
     TooMany,
+    /// A layout is written, refused with 8 if no bits read as it. The Rust writes none.
+    Writing,
 }
 
 impl Rule {
-    pub const ALL: [Self; 7] = [
+    pub const ALL: [Self; 8] = [
         Self::Limit,
         Self::PastEnd,
         Self::Domain,
@@ -27,6 +29,7 @@ impl Rule {
         Self::Rectangles,
         Self::Short,
         Self::TooMany,
+        Self::Writing,
     ];
 
     pub fn sentence(self) -> &'static str {
@@ -40,6 +43,9 @@ impl Rule {
             }
             Self::Short => "a lent buffer too short: 5, nothing changes",
             Self::TooMany => "more columns or rows than the limit: 6, the record given comes back",
+            Self::Writing => {
+                "a layout's bits are those that the Rust reads as it, 8 if there are none, as #106 says"
+            }
         }
     }
 

@@ -30,7 +30,7 @@ pub fn numbers(case: &Case, outcome: &Outcome) -> Vec<u32> {
     match case.kind {
         // These don't move the reader, and the bytes that remain follow from their number.
         Kind::Positions => numbers.push(outcome.record[0] as u32),
-        Kind::TileRectangles => {}
+        Kind::TileRectangles | Kind::WriteTileInfo => {}
         _ => numbers.extend([place.bits() as u32, place.error.into()]),
     }
     match case.kind {
@@ -38,6 +38,11 @@ pub fn numbers(case: &Case, outcome: &Outcome) -> Vec<u32> {
         // A refused header answers the zero record, and so do refused film grain parameters.
         Kind::ParseSeqHdr if outcome.record.is_empty() => numbers.resize(3 + HEADER, 0),
         Kind::ParseFilmGrainData if outcome.record.is_empty() => numbers.resize(3 + GRAIN, 0),
+        // The count of bits and all bytes lent; what they read as is not stored.
+        Kind::WriteTileInfo => {
+            let lent = 1 + case.args[TILE + 7] as usize;
+            numbers.extend(outcome.record[..lent].iter().map(|&number| number as u32));
+        }
         _ => numbers.extend(outcome.record.iter().map(|&number| number as u32)),
     }
     numbers

@@ -7,8 +7,8 @@ use crate::rule::Rule;
 pub struct Tally {
     pub cases: u64,
     pub accepted: u64,
-    /// Refusals 1 to 7.
-    pub refused: [u64; 7],
+    /// Refusals 1 to 8.
+    pub refused: [u64; 8],
     /// The reader's error is set after the call.
     pub error: u64,
     pub rules: [u64; Rule::ALL.len()],

@@ -6,6 +6,7 @@ use crate::records::{Numbers, SEG, TILE, from::theirs as from};
 use crate::rule::Rule;
 use oracle::Reader;
 use oracle::error::TealdustError;
+use oracle::headers::TileInfo;
 
 /// Not for cases that a rule of document 01 decides: there the Rust may panic.
 pub fn run(case: &Case, out: &mut Outcome) {
@@ -60,6 +61,7 @@ pub fn run(case: &Case, out: &mut Outcome) {
             }
         }
         Kind::TileRectangles => unreachable!("the Rust has no rectangles"),
+        Kind::WriteTileInfo => unreachable!("the Rust writes no layout"),
         kind => out.answer = reading(kind, gb, a),
     }
     let (byte, used, error) = gb.place();
@@ -134,4 +136,27 @@ fn parse_tile_info_frmhdr(case: &Case, gb: &mut Reader, out: &mut Outcome) {
     hdr.sb128.numbers(&mut out.record);
     hdr.tiling.t.numbers(&mut out.record);
     whole_if_refused(out, case.given());
+}
+
+/// The layout that bytes read as over the zero record, and how many bits were used, if it is accepted without the reader's
+/// error. It is read with multiplier, codes, width, height, level and tier.
+pub fn fresh_layout(b: &[i64], data: &[u8]) -> Option<(Vec<i64>, usize)> {
+    let mut t = TileInfo::default();
+    let mut gb = Reader::new(data);
+    let answer = gb.parse_tile_info(
+        &mut t,
+        b[0] as i32,
+        b[1] as u8,
+        b[2] as u8,
+        b[3] as i32,
+        b[4] as i32,
+        b[5] as u8,
+        b[6] as u8,
+    );
+    let (byte, used, error) = gb.place();
+    (answer.is_ok() && !error).then(|| {
+        let mut row = Vec::with_capacity(TILE);
+        t.numbers(&mut row);
+        (row, 8 * byte + used as usize)
+    })
 }

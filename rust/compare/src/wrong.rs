@@ -1,5 +1,5 @@
-//! Wrong versions of the Rust and of the rules of a limit and of rectangles, one line each, and how many stored answers
-//! notice each of them.
+//! Wrong versions of the Rust and of the rules of a limit, of rectangles and of writing, one line each, and how many stored
+//! answers notice each of them.
 
 use crate::rebuild;
 use std::fmt::Write;
@@ -13,13 +13,14 @@ use std::{fs, thread};
 const VERSIONS: &str = include_str!("../wrong.tsv");
 
 /// The Rust's files that the oracle is made of, and the rules, which are taken from beside them where they stand there.
-const FILES: [&str; 6] = [
+const FILES: [&str; 7] = [
     "getbits.rs",
     "intops.rs",
     "headers.rs",
     "obu.rs",
     "within.rs",
     "rectangles.rs",
+    "writing.rs",
 ];
 
 /// Where the right version of a file stands.
@@ -27,6 +28,7 @@ fn right(file: &str) -> PathBuf {
     match file {
         "within.rs" => PathBuf::from(env!("WITHIN_RULE")),
         "rectangles.rs" => PathBuf::from(env!("RECTANGLES_RULE")),
+        "writing.rs" => PathBuf::from(env!("WRITING_RULE")),
         _ => Path::new(oracle::FOLDER).join(file),
     }
 }

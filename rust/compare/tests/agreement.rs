@@ -5,9 +5,11 @@ use compare::case::{Case, Outcome, Place};
 use compare::kind::Kind;
 use compare::make::grain::grain;
 use compare::make::header::header;
+use compare::make::layouts::PAIRS;
 use compare::make::make;
 use compare::make::within::{PANEL, set_limit};
 use compare::options::Options;
+use compare::records::Numbers;
 use compare::report;
 use compare::rng::Rng;
 use compare::rule::Rule;
@@ -16,7 +18,8 @@ use compare::run::{Plan, differs, run};
 use compare::shrink::shrink;
 use compare::within::tiles;
 use oracle::Reader;
-use oracle::headers::PixelLayout;
+use oracle::headers::{PixelLayout, TileInfo};
+use std::collections::HashMap;
 
 fn plan(kind: Kind, seed: u64) -> Plan {
     Plan {
@@ -180,6 +183,130 @@ fn the_edges_of_limits_are_made() {
         let least = seen.iter().flatten().min();
         assert!(least > Some(&300), "{}: {seen:?}", kind.name());
     }
+}
+
+/// The layout that two bytes read as over the zero record, up to and with its closing starts, and the bits used, if it is
+/// accepted without error.
+fn read_fresh(b: &[i64; 7], data: [u8; 2]) -> Option<(Vec<i64>, usize)> {
+    let mut t = TileInfo::default();
+    let mut gb = Reader::new(&data);
+    let [sbmul, w, h] = [b[0], b[3], b[4]].map(|n| n as i32);
+    let [sb128, seq_sb128, level, tier] = [b[1], b[2], b[5], b[6]].map(|n| n as u8);
+    let read = gb.parse_tile_info(&mut t, sbmul, sb128, seq_sb128, w, h, level, tier);
+    let (byte, used, error) = gb.place();
+    let mut row = Vec::new();
+    t.numbers(&mut row);
+    (read.is_ok() && !error).then_some((row, 8 * byte + used as usize))
+}
+
+/// The rule's answer for a layout and a buffer of the bytes FF 00, and the count of bits and the bytes after it.
+fn written(t: &[i64], b: &[i64; 7]) -> (i64, Vec<i64>) {
+    let mut args = [t, b].concat();
+    args.extend([2, 0xFF]);
+    let case = Case {
+        args,
+        ..Case::of(Kind::WriteTileInfo)
+    };
+    let mut outcome = Outcome::default();
+    rules::expected(&case, &mut outcome);
+    outcome.record.truncate(3);
+    (outcome.answer, outcome.record)
+}
+
+/// In frames of so few superblocks that two bytes tell every layout: each layout that any bits read as is written as those bits,
+/// and a record with one number changed is refused with 8 unless there are bits for it.
+#[test]
+fn the_rule_of_writing_finds_all_bits_that_there_are() {
+    let mut refused = 0;
+    for (pair, across, down) in [
+        (PAIRS[0], 5, 3),
+        (PAIRS[0], 1, 1),
+        (PAIRS[1], 3, 5),
+        (PAIRS[2], 6, 1),
+        (PAIRS[3], 5, 3),
+    ] {
+        let side = 64 << pair[1];
+        let b = [
+            pair[0],
+            pair[1],
+            pair[2],
+            across * side - 40,
+            down * side,
+            0,
+            0,
+        ];
+        let mut rows = HashMap::new();
+        for data in 0..=u16::MAX {
+            if let Some((t, used)) = read_fresh(&b, data.to_be_bytes()) {
+                let bits = data >> (16 - used) << (16 - used);
+                assert_eq!(*rows.entry(t).or_insert((bits, used)), (bits, used));
+            }
+        }
+        for (t, &(bits, used)) in &rows {
+            let [high, low] = bits.to_be_bytes().map(i64::from);
+            let low = if used > 8 { low } else { 0 };
+            assert_eq!(written(t, &b), (0, vec![used as i64, high, low]));
+            let starts = [9 + t[4] as usize, 74 + t[8] as usize];
+            for at in (0..=starts[0]).chain(74..=starts[1]) {
+                for change in [-1, 1] {
+                    let mut other = t.clone();
+                    other[at] += change;
+                    let most = if at == 0 { 1 } else { 255 };
+                    if !(0..=most).contains(&other[at]) {
+                        continue;
+                    }
+                    let answer = written(&other, &b).0;
+                    let known = rows.keys().any(|row| same_layout(row, &other));
+                    assert_eq!(answer, if known { 0 } else { 8 }, "{b:?} {other:?}");
+                    refused += u32::from(!known);
+                }
+            }
+        }
+    }
+    assert!(refused > 1000, "{refused} refused");
+}
+
+/// Up to and with the closing starts of the first.
+fn same_layout(a: &[i64], b: &[i64]) -> bool {
+    let (cols, rows) = (9 + a[4] as usize, 74 + a[8] as usize);
+    a[..=cols] == b[..=cols] && a[74..=rows] == b[74..=rows]
+}
+
+/// Layouts of both kinds in each pair, with few tiles and many, with old starts behind the closing ones, and each answer. The bits
+/// that a layout was read from are the rule's own.
+#[test]
+fn layouts_to_write_are_of_every_sort() {
+    let mut rng = Rng::new(7);
+    let mut case = Case::of(Kind::WriteTileInfo);
+    let [mut outcome, mut own] = [Outcome::default(), Outcome::default()];
+    let mut answers = [0; 9];
+    let mut accepted = [[0; 4]; 2];
+    let (mut many, mut old, mut read) = (0, 0, 0);
+    for _ in 0..20_000 {
+        make(&mut rng, &mut case, &mut outcome);
+        rules::expected(&case, &mut outcome);
+        answers[outcome.answer as usize] += 1;
+        read += u32::from(!case.data.is_empty() && outcome.answer == 0);
+        case.data.clear();
+        rules::expected(&case, &mut own);
+        assert!(outcome.agrees(&own), "{case:?}");
+        if outcome.answer == 0 {
+            let a = &case.args;
+            let pair = PAIRS.iter().position(|pair| a[139..142] == pair[..]);
+            accepted[a[0] as usize][pair.unwrap()] += 1;
+            many += u32::from(a[4] > 60 && a[0] == 0) + u32::from(a[8] > 60 && a[0] == 0);
+            old += u32::from(a[4] < 64 && a[73] != 0);
+        }
+    }
+    assert!(
+        [0, 4, 5, 8].iter().all(|&n| answers[n] > 500),
+        "{answers:?}"
+    );
+    assert!(accepted.iter().flatten().all(|&n| n > 500), "{accepted:?}");
+    assert!(
+        many > 300 && old > 3000 && read > 3000,
+        "{many} {old} {read}"
+    );
 }
 
 #[test]

@@ -1,4 +1,4 @@
-//! Finds the four static libraries of the proved reader, or has them proved, and tells cargo to link them.
+//! Finds the five static libraries of the proved reader, or has them proved, and tells cargo to link them.
 //!
 //! They are taken from the folder that `MUBANLIG_LIB_DIR` names; else from `target/staticlib` of the project, where
 //! `rt staticlib` proves and writes them if they are missing or older than the sources. What is linked is a copy that
@@ -19,18 +19,26 @@ use std::{env, process};
 const INTERFACE: u32 = 3;
 
 /// The crates, the libraries made of them, and the function before the interface's number.
-const NAMES: [&str; 4] = ["capi_bits", "capi", "capi_within", "capi_grain"];
-const LIBRARIES: [&str; 4] = [
+const NAMES: [&str; 5] = [
+    "capi_bits",
+    "capi",
+    "capi_within",
+    "capi_grain",
+    "capi_write",
+];
+const LIBRARIES: [&str; 5] = [
     "libcapi_bits.a",
     "libcapi.a",
     "libcapi_within.a",
     "libcapi_grain.a",
+    "libcapi_write.a",
 ];
-const MARKS: [&str; 4] = [
+const MARKS: [&str; 5] = [
     "mubanlig_bits_interface_",
     "mubanlig_interface_",
     "mubanlig_within_interface_",
     "mubanlig_grain_interface_",
+    "mubanlig_write_interface_",
 ];
 
 fn main() {
@@ -82,7 +90,7 @@ fn link() -> Result<(), String> {
 fn take_named(folder: &Path, root: Option<&Path>, linked: &Path) -> Result<(), String> {
     copy(folder, linked).map_err(|why| {
         format!(
-            "{} names {}: {why}; name a folder to which `rt staticlib` wrote all four, or unset it",
+            "{} names {}: {why}; name a folder to which `rt staticlib` wrote all five, or unset it",
             settings::FOLDER,
             folder.display()
         )
@@ -113,7 +121,7 @@ fn take_proved(root: &Path, linked: &Path) -> Result<(), String> {
         if let Err(e) = &lock {
             return Err(format!(
                 "{} has to be proved and written, and the project's folder can't be written ({e}): \
-                 make it writable, or set {} to a folder with the four libraries",
+                 make it writable, or set {} to a folder with the five libraries",
                 library.display(),
                 settings::FOLDER
             ));

@@ -24,17 +24,19 @@ pub enum Error {
     /// 4: an argument is outside the domain, a sequence header can't be used for a frame, or a layout has no
     /// rectangles. No bit is used.
     WrongArguments,
-    /// 5: a buffer has fewer than four numbers a tile.
+    /// 5: a buffer has fewer than four numbers a tile, or fewer bytes than a layout's bits need.
     ShortBuffer,
     /// 6: a layout has more columns or more rows than the limit. Its bits are used.
     TooManyTiles,
     /// 7: of film grain more than 14 points in a list, a position past 255, in I420 one chroma list empty and the other not,
     /// or the reader's error.
     InvalidFilmGrainData,
+    /// 8: no bits read as the layout that was to be written.
+    NoSuchLayout,
 }
 
 impl Error {
-    /// The number of this refusal, 1 to 7.
+    /// The number of this refusal, 1 to 8.
     #[must_use]
     pub fn number(self) -> u32 {
         match self {
@@ -45,6 +47,7 @@ impl Error {
             Self::ShortBuffer => 5,
             Self::TooManyTiles => 6,
             Self::InvalidFilmGrainData => 7,
+            Self::NoSuchLayout => 8,
         }
     }
 }
@@ -61,6 +64,7 @@ pub(crate) fn answer(number: u32) -> Result<(), Error> {
         5 => Err(Error::ShortBuffer),
         6 => Err(Error::TooManyTiles),
         7 => Err(Error::InvalidFilmGrainData),
+        8 => Err(Error::NoSuchLayout),
         _ => unreachable!("the library has no answer {number}"),
     }
 }
@@ -74,9 +78,10 @@ impl fmt::Display for Error {
             }
             Self::InvalidTrailingBits => "the sequence header has no trailing one bit",
             Self::WrongArguments => "an argument is outside the domain",
-            Self::ShortBuffer => "the buffer is too short for all tiles",
+            Self::ShortBuffer => "the buffer is too short for all tiles or bits",
             Self::TooManyTiles => "the tile layout has more columns or rows than the limit",
             Self::InvalidFilmGrainData => "the film grain parameters are invalid or too short",
+            Self::NoSuchLayout => "no bits read as the tile layout",
         })
     }
 }

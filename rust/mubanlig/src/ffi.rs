@@ -255,6 +255,27 @@ unsafe extern "C" {
         fgd: *mut i16,
         fgd_len: usize,
     ) -> u32;
+
+    #[cfg(test)]
+    fn mubanlig_write_interface_3() -> u32;
+    fn mubanlig_write_tile_info(
+        info: *const u8,
+        info_len: usize,
+        col_start_sb: *const u16,
+        col_start_sb_len: usize,
+        row_start_sb: *const u16,
+        row_start_sb_len: usize,
+        sbmul: i32,
+        sb128: u8,
+        seq_sb128: u8,
+        w: i32,
+        h: i32,
+        level: u8,
+        tier: u8,
+        out: *mut u8,
+        out_len: usize,
+        bits: *mut u32,
+    ) -> u32;
 }
 
 /// A safe wrapper for each reading: the bytes, the position, the error, then the arguments.
@@ -536,6 +557,46 @@ pub(crate) fn tile_rectangles(t: &TileInfo, sb128: u8, w: i32, h: i32, out: &mut
             out.len(),
         )
     }
+}
+
+/// How many bits were written.
+#[inline]
+#[allow(clippy::too_many_arguments)]
+pub(crate) fn write_tile_info(
+    t: &TileInfo,
+    sbmul: i32,
+    sb128: u8,
+    seq_sb128: u8,
+    w: i32,
+    h: i32,
+    level: u8,
+    tier: u8,
+    out: &mut [u8],
+) -> Result<u32, Error> {
+    let (info, cols, rows) = parts(t);
+    let mut bits = 0;
+    // SAFETY: all is lent by references, the parts of `t` by the one to it.
+    answer(unsafe {
+        mubanlig_write_tile_info(
+            info,
+            INFO_BYTES,
+            cols,
+            MAX_TILE_COLS + 1,
+            rows,
+            MAX_TILE_ROWS + 1,
+            sbmul,
+            sb128,
+            seq_sb128,
+            w,
+            h,
+            level,
+            tier,
+            out.as_mut_ptr(),
+            out.len(),
+            &raw mut bits,
+        )
+    })?;
+    Ok(bits)
 }
 
 #[cfg(test)]

@@ -1,4 +1,4 @@
-//! AV2 sequence headers, tile layouts and film grain parameters, read by a proved library.
+//! AV2 sequence headers, tile layouts and film grain parameters, read by a proved library, which writes layouts too.
 //!
 //! This crate stands where a viewer used tealdust's reader: the names of its functions, records and fields are
 //! the same. The reading itself is done by a library written in Rattle, in which each function is proved to
@@ -42,6 +42,7 @@ mod getbits;
 mod headers;
 mod obu;
 mod rectangles;
+mod writing;
 
 pub use error::Error;
 pub use getbits::{GetBits, Place};
@@ -55,3 +56,4 @@ pub use obu::{
     parse_tile_info_frmhdr_parts, parse_tile_info_frmhdr_within, parse_tile_info_within,
 };
 pub use rectangles::tile_rectangles;
+pub use writing::write_tile_info;

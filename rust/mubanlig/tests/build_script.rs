@@ -37,6 +37,7 @@ fn the_libraries_are_whole_and_of_the_interface() {
         ("libcapi.a", MARK),
         ("libcapi_within.a", "mubanlig_within_interface_"),
         ("libcapi_grain.a", "mubanlig_grain_interface_"),
+        ("libcapi_write.a", "mubanlig_write_interface_"),
     ] {
         let path = Path::new(env!("MUBANLIG_LIBRARIES")).join(name);
         assert_eq!(check(&fs::read(path).unwrap(), mark, 3), Ok(()), "{name}");
@@ -51,6 +52,7 @@ fn another_interface_is_said() {
         "mubanlig_bits_interface_",
         "mubanlig_within_interface_",
         "mubanlig_grain_interface_",
+        "mubanlig_write_interface_",
     ] {
         let fault = check(&library(), mark, 3).unwrap_err();
         assert_eq!(fault, Fault::NoInterface { needed: 3 });

@@ -39,6 +39,7 @@ fn compiled(variable: &str, default: &str, language: [&str; 3]) -> Option<PathBu
             "-lcapi",
             "-lcapi_within",
             "-lcapi_grain",
+            "-lcapi_write",
             "-o",
         ])
         .arg(&program)

@@ -23,7 +23,13 @@ fn read(path: &Path) -> String {
 
 fn exports() -> Vec<Export> {
     let mut list = Vec::new();
-    for name in ["capi_bits", "capi", "capi_within", "capi_grain"] {
+    for name in [
+        "capi_bits",
+        "capi",
+        "capi_within",
+        "capi_grain",
+        "capi_write",
+    ] {
         for entry in fs::read_dir(root().join("crates").join(name).join("src")).unwrap() {
             let source = read(&entry.unwrap().path());
             let functions = source.split("pub extern \"C\" fn ").skip(1);

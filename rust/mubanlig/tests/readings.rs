@@ -4,7 +4,7 @@ use mubanlig::{
     AdaptiveBoolean, Error, FilmGrainData, FrameHeader, FrameType, GetBits, PixelLayout, Place,
     SequenceHeader, TileInfo, TileLimit, parse_film_grain_data, parse_seq_hdr, parse_tile_info,
     parse_tile_info_frmhdr, parse_tile_info_frmhdr_parts, parse_tile_info_frmhdr_within,
-    parse_tile_info_within, tile_rectangles,
+    parse_tile_info_within, tile_rectangles, write_tile_info,
 };
 
 /// A layout read over a fresh record at level 0, tier 0; and whether the reader's error is set.
@@ -586,6 +586,230 @@ fn refused_film_grain() {
         assert_eq!(grain(layout, &[0x00]), (NO_GRAIN, 8, true));
     }
     assert_eq!(grain(PixelLayout::I420, &[0x00; 2]), (NO_GRAIN, 16, true));
+}
+
+/// A layout written at level 0, tier 0, into bytes that are A5 before; and these bytes.
+fn written(
+    t: &TileInfo,
+    pair: [u8; 2],
+    w: i32,
+    h: i32,
+    len: usize,
+) -> (Result<usize, Error>, Vec<u8>) {
+    let sbmul = if pair == [1, 2] { 2 } else { 1 };
+    let mut out = vec![0xA5; len];
+    let bits = write_tile_info(t, sbmul, pair[0], pair[1], w, h, 0, 0, &mut out);
+    (bits, out)
+}
+
+/// What a row of bits reads as, all of which are used.
+fn told(pair: [u8; 2], w: i32, h: i32, row: &str) -> TileInfo {
+    let data = bits(row);
+    let sbmul = if pair == [1, 2] { 2 } else { 1 };
+    let mut t = TileInfo::default();
+    let mut gb = GetBits::new(&data);
+    parse_tile_info(&mut t, &mut gb, sbmul, pair[0], pair[1], w, h, 0, 0).unwrap();
+    let Place { byte, used, error } = gb.place();
+    assert_eq!(8 * byte + used as usize, row.replace(' ', "").len());
+    assert!(!error);
+    t
+}
+
+/// The layout of 600 by 128 samples, the codes 1 and 2, that a row of bits reads as.
+fn narrow(row: &str) -> TileInfo {
+    told([1, 2], 600, 128, row)
+}
+
+/// Uniform ones at the least logarithm, at the greatest and between; sizes told by short codes and by long ones, and such
+/// that take no bit.
+#[test]
+fn a_layout_is_written_as_it_was_read() {
+    for (pair, w, h, row) in [
+        ([0, 0], 1, 1, "1"),
+        ([0, 0], 1, 1, "0"),
+        ([1, 2], 600, 128, "1 0"),
+        ([1, 2], 600, 128, "1 10"),
+        ([1, 2], 600, 128, "1 110"),
+        ([1, 2], 600, 128, "1 111"),
+        ([1, 2], 600, 128, "0 01 10"),
+        ([0, 0], 256, 128, "1 0 0"),
+        ([0, 0], 256, 128, "1 11 1"),
+        ([0, 0], 256, 128, "0 01 0 1"),
+        ([0, 0], 256, 128, "0 00 0 0 0"),
+        ([0, 0], 256, 128, "0 11 1"),
+        ([2, 2], 1700, 2000, "0 111 111"),
+        ([2, 2], 1700, 2000, "0 00 100 10 111"),
+        ([0, 0], 4032, 4672, "1 0 0"),
+        ([0, 0], 16_000, 16_000, "1 10 110"),
+    ] {
+        let mut t = told(pair, w, h, row);
+        let count = row.replace(' ', "").len();
+        let bytes = bits(row);
+        for more in 0..3 {
+            let mut expected = bytes.clone();
+            expected.resize(bytes.len() + more, 0xA5);
+            let out = written(&t, pair, w, h, expected.len());
+            assert_eq!(out, (Ok(count), expected), "{row}");
+        }
+        // Starts behind the closing ones don't count.
+        let (cols, rows) = (usize::from(t.cols), usize::from(t.rows));
+        t.col_start_sb[cols + 1..].fill(7);
+        t.row_start_sb[rows + 1..].fill(65_535);
+        assert_eq!(written(&t, pair, w, h, bytes.len()), (Ok(count), bytes));
+    }
+}
+
+/// A layout with these starts that is not uniform, for a frame in which each tile may have any size.
+fn listed(cols: &[u16], rows: &[u16]) -> TileInfo {
+    let log2 = |n: usize| u8::try_from(n.next_power_of_two().ilog2()).unwrap();
+    let superblocks = |starts: &[u16]| usize::from(starts[starts.len() - 1]).min(64);
+    let mut t = TileInfo {
+        max_log2_cols: log2(superblocks(cols)),
+        log2_cols: log2(cols.len() - 1),
+        cols: u8::try_from(cols.len() - 1).unwrap(),
+        max_log2_rows: log2(superblocks(rows)),
+        log2_rows: log2(rows.len() - 1),
+        rows: u8::try_from(rows.len() - 1).unwrap(),
+        ..Default::default()
+    };
+    t.col_start_sb[..cols.len()].copy_from_slice(cols);
+    t.row_start_sb[..rows.len()].copy_from_slice(rows);
+    t
+}
+
+#[test]
+fn a_written_layout_reads_back() {
+    let single: Vec<u16> = (0..=64).collect();
+    for (cols, rows) in [
+        (&[0, 7][..], &[0, 9][..]),
+        (&[0, 3, 4, 6, 7], &[0, 4, 8, 9]),
+        (&[0, 1, 2, 3, 4, 5, 6, 7], &[0, 8, 9]),
+        (&single[..], &[0, 1, 36]),
+        (&[0, 1, 2], &single[..]),
+    ] {
+        let t = listed(cols, rows);
+        let [w, h] = [cols, rows].map(|starts| 64 * i32::from(starts[starts.len() - 1]) - 5);
+        let (count, out) = written(&t, [0, 0], w, h, 177);
+        let mut gb = GetBits::new(&out);
+        let mut read = TileInfo::default();
+        parse_tile_info(&mut read, &mut gb, 1, 0, 0, w, h, 0, 0).unwrap();
+        assert_eq!(read, t);
+        let Place { byte, used, error } = gb.place();
+        assert_eq!((count, error), (Ok(8 * byte + used as usize), false));
+        // Zeros up to the byte's end, and what was there behind it.
+        let used = count.unwrap();
+        let padding = (used..used.next_multiple_of(8)).all(|i| out[i / 8] >> (7 - i % 8) & 1 == 0);
+        assert!(padding && out[used.div_ceil(8)..].iter().all(|&byte| byte == 0xA5));
+    }
+}
+
+/// The same tiles by one logarithm, by another, and by their sizes.
+#[test]
+fn logarithms_and_flag_decide_what_is_written() {
+    let mut t = narrow("1110");
+    for row in ["1111", "00110"] {
+        let other = narrow(row);
+        assert_eq!(other.col_starts(), t.col_starts());
+        assert_eq!(other.row_starts(), t.row_starts());
+    }
+    t.log2_cols = 3;
+    assert_eq!(written(&t, [1, 2], 600, 128, 1), (Ok(4), vec![0xF0]));
+    t.log2_cols = 2;
+    t.uniform = false;
+    assert_eq!(written(&t, [1, 2], 600, 128, 1), (Ok(5), vec![0x30]));
+}
+
+/// Each of the nine numbers, a start, and the closing ones.
+#[test]
+fn no_bits_read_as_a_changed_layout() {
+    let changes: [fn(&mut TileInfo); 16] = [
+        |t| t.uniform ^= true,
+        |t| t.min_log2_cols += 1,
+        |t| t.max_log2_cols += 1,
+        |t| t.max_log2_cols -= 1,
+        |t| t.log2_cols = 0,
+        |t| t.cols -= 1,
+        |t| t.cols += 1,
+        |t| t.min_log2_rows += 1,
+        |t| t.max_log2_rows += 1,
+        |t| t.log2_rows += 1,
+        |t| t.rows += 1,
+        |t| t.rows = 0,
+        |t| t.col_start_sb[0] = 1,
+        |t| t.row_start_sb[0] = 1,
+        |t| t.col_start_sb[3] += 1,
+        |t| t.row_start_sb[1] += 1,
+    ];
+    for row in ["1111", "00110"] {
+        for change in &changes[usize::from(row == "00110")..] {
+            let mut t = narrow(row);
+            change(&mut t);
+            // Asked before the buffer.
+            for len in [0, 1, 3] {
+                let refused = (Err(Error::NoSuchLayout), vec![0xA5; len]);
+                assert_eq!(written(&t, [1, 2], 600, 128, len), refused, "{row} {t:?}");
+            }
+        }
+    }
+    // A start of a uniform layout; a count that there is not.
+    let mut t = narrow("1111");
+    t.col_start_sb[1] = 1;
+    assert_eq!(written(&t, [1, 2], 600, 128, 1).0, Err(Error::NoSuchLayout));
+    for count in [65, 128, 255] {
+        for t in [
+            TileInfo {
+                cols: count,
+                ..narrow("00110")
+            },
+            TileInfo {
+                rows: count,
+                ..narrow("00110")
+            },
+        ] {
+            assert_eq!(written(&t, [1, 2], 600, 128, 1).0, Err(Error::NoSuchLayout));
+        }
+    }
+    let zero = TileInfo::default();
+    assert_eq!(written(&zero, [0, 0], 1, 1, 1).0, Err(Error::NoSuchLayout));
+    assert_eq!(Error::NoSuchLayout.number(), 8);
+}
+
+/// Of a layout, and of a record that is none, in a buffer and in none.
+#[test]
+fn refused_writing_leaves_the_buffer() {
+    let good = narrow("1110");
+    let none = TileInfo {
+        max_log2_rows: 5,
+        ..good.clone()
+    };
+    for len in [0, 1, 3] {
+        for t in [&good, &none] {
+            for (pair, w, h) in [
+                ([1, 2], 0, 128),
+                ([1, 2], 600, 65_537),
+                ([1, 2], -1, 128),
+                ([2, 1], 600, 128),
+                ([3, 3], 600, 128),
+            ] {
+                let refused = (Err(Error::WrongArguments), vec![0xA5; len]);
+                assert_eq!(written(t, pair, w, h, len), refused);
+            }
+        }
+    }
+    for (level, tier) in [(32, 0), (255, 0), (0, 2)] {
+        let refused = write_tile_info(&none, 2, 1, 2, 600, 128, level, tier, &mut []);
+        assert_eq!(refused, Err(Error::WrongArguments));
+    }
+    assert_eq!(
+        written(&good, [1, 2], 600, 128, 0).0,
+        Err(Error::ShortBuffer)
+    );
+    let long = listed(&(0..=64).collect::<Vec<_>>(), &[0, 1]);
+    let (count, _) = written(&long, [0, 0], 4096, 64, 177);
+    let needed = count.unwrap().div_ceil(8);
+    let refused = (Err(Error::ShortBuffer), vec![0xA5; needed - 1]);
+    assert_eq!(written(&long, [0, 0], 4096, 64, needed - 1), refused);
+    assert_eq!(written(&long, [0, 0], 4096, 64, needed).0, count);
 }
 
 /// A viewer may import everything: `Result` is still std's.

@@ -5,10 +5,10 @@ use Rattle.vectors.proofs.print_tally.Statement.{statement}
 use Rattle.vectors.proofs.print_tally.Tie as tie
 
 abbrev Inv-loop : tie.InvT-loop
-Inv-loop t kind₀ kind = kind ≤ 19
+Inv-loop t kind₀ kind = kind ≤ 20
 
 abbrev μ-loop : tie.MeasureT-loop
-μ-loop t kind₀ kind = 19 - kind
+μ-loop t kind₀ kind = 20 - kind
 
 loop-holds : tie.Need-loop-holds Inv-loop μ-loop
 loop-holds c = search needs

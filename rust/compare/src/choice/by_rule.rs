@@ -226,7 +226,9 @@ impl Adder<'_> {
         loop {
             make(self.rng, &mut case, &mut outcome);
             expected(&case, &mut outcome);
-            if outcome.answer == 0 && outcome.rule.is_none() && case.data.len() < 40 {
+            // A layout that is written is always by a rule.
+            let by_rule = outcome.rule.is_some() && kind != Kind::WriteTileInfo;
+            if outcome.answer == 0 && !by_rule && case.data.len() < 40 {
                 return case;
             }
         }

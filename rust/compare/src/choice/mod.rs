@@ -12,6 +12,7 @@ mod layouts;
 mod readings;
 mod segments;
 mod within;
+mod writing;
 
 use crate::bits::BitWriter;
 use crate::case::{Case, Outcome, Place};
@@ -32,6 +33,7 @@ pub fn cases(seed: u64) -> Vec<Case> {
     by_rule::add(&mut list, seed);
     within::add(&mut list, seed);
     grain::add(&mut list, seed);
+    writing::add(&mut list, seed);
     list
 }
 

@@ -46,7 +46,8 @@ pub fn domain(rng: &mut Rng) -> [i64; 7] {
     ]
 }
 
-fn spoil(rng: &mut Rng, b: &mut [i64; 7]) {
+/// One argument of a layout that is outside the domain, or a pair that may be.
+pub fn spoil(rng: &mut Rng, b: &mut [i64; 7]) {
     match rng.below(7) {
         0 => b[0] = rng.pick(&[0, -1, 2, 3, i64::from(i32::MIN)]),
         1 => b[1] = rng.range(0, 255),

@@ -9,6 +9,7 @@ pub mod header;
 pub mod layouts;
 mod readings;
 pub mod within;
+pub mod writing;
 
 use crate::case::{Case, Outcome, Place, Source};
 use crate::kind::Kind;
@@ -37,6 +38,7 @@ fn made(rng: &mut Rng, case: &mut Case, scratch: &mut Outcome) -> Source {
         Kind::ParseTileInfoWithin => within::layout_case(rng, case),
         Kind::ParseTileInfoFrmhdrWithin => within::frame_case(rng, case),
         Kind::TileRectangles => layouts::rectangles_case(rng, case),
+        Kind::WriteTileInfo => return writing::case(rng, case),
         Kind::ParseSegInfo => {
             seg_args(rng, case);
             bytes::fill(rng, &mut case.data, 40);

@@ -194,6 +194,56 @@ fn film_grain(data: &[u8], place: (usize, u8), layout: u8, numbers: usize) -> (u
     (answer, lent)
 }
 
+/// A layout that is lent for writing. Behind its starts stand old ones.
+#[derive(Clone, Copy)]
+struct Given {
+    info: [u8; INFO_BYTES],
+    cols: &'static [u16],
+    rows: &'static [u16],
+}
+
+/// What 256 by 128 samples and the bits 00101 give.
+const LISTED: Given = Given {
+    info: [0, 0, 2, 2, 3, 0, 1, 0, 1],
+    cols: &[0, 2, 3, 4],
+    rows: &[0, 2],
+};
+
+fn starts_of(first: &[u16]) -> [u16; 65] {
+    let mut starts = [1023; 65];
+    starts[..first.len()].copy_from_slice(first);
+    starts
+}
+
+/// A layout written for a frame of so many samples by 128, from buffers of these lengths into one of so many bytes: the
+/// answer, the count of bits, which is 77 before, and all bytes.
+fn written(t: Given, lengths: Lengths, w: i32, out_len: usize) -> (u32, u32, [u8; 4]) {
+    let (cols, rows) = (starts_of(t.cols), starts_of(t.rows));
+    let (mut out, mut bits) = ([0xAA; 4], 77);
+    // SAFETY: the buffers are at least as long as told.
+    let answer = unsafe {
+        mubanlig_write_tile_info(
+            t.info.as_ptr(),
+            lengths[0],
+            cols.as_ptr(),
+            lengths[1],
+            rows.as_ptr(),
+            lengths[2],
+            1,
+            0,
+            0,
+            w,
+            128,
+            0,
+            0,
+            out.as_mut_ptr(),
+            out_len,
+            &raw mut bits,
+        )
+    };
+    (answer, bits, out)
+}
+
 #[test]
 fn the_libraries_are_those_of_this_interface() {
     // SAFETY: nothing is lent.
@@ -203,9 +253,10 @@ fn the_libraries_are_those_of_this_interface() {
             mubanlig_interface_3(),
             mubanlig_within_interface_3(),
             mubanlig_grain_interface_3(),
+            mubanlig_write_interface_3(),
         ]
     };
-    assert_eq!(numbers, [3, 3, 3, 3]);
+    assert_eq!(numbers, [3; 5]);
 }
 
 #[test]
@@ -294,6 +345,51 @@ fn too_many_tiles_are_6_and_change_no_buffer() {
     }
     for limit in [[5, 6], [6, 5], [0, 0]] {
         assert_eq!(frame(1, 1, LONG, LONG, Some(limit)), refused);
+    }
+}
+
+/// Short parts of the layout are asked before the arguments, these before the record, and the bytes last.
+#[test]
+fn a_refused_layout_writes_no_byte_and_no_bits() {
+    let mut no_layout = LISTED;
+    no_layout.info[5] = 1;
+    for lengths in SHORT {
+        for (t, w) in [(LISTED, 256), (LISTED, 0), (no_layout, 256)] {
+            assert_eq!(written(t, lengths, w, 4), (5, 0, [0xAA; 4]));
+        }
+    }
+    for out_len in [0, 1, 4] {
+        for t in [LISTED, no_layout] {
+            assert_eq!(written(t, LONG, 0, out_len), (4, 0, [0xAA; 4]));
+        }
+        assert_eq!(written(no_layout, LONG, 256, out_len), (8, 0, [0xAA; 4]));
+    }
+    assert_eq!(written(LISTED, LONG, 256, 0), (5, 0, [0xAA; 4]));
+}
+
+#[test]
+fn a_written_layout_keeps_the_bytes_behind() {
+    for out_len in [1, 2, 4] {
+        assert_eq!(
+            written(LISTED, LONG, 256, out_len),
+            (0, 5, [0x28, 0xAA, 0xAA, 0xAA])
+        );
+    }
+}
+
+/// One column and one row, by logarithms that can grow to 2 and to 1: the bits 100.
+#[test]
+fn a_layout_is_written_by_any_flag() {
+    for flag in [1, 2, 128, 255] {
+        let uniform = Given {
+            info: [flag, 0, 2, 0, 1, 0, 1, 0, 1],
+            cols: &[0, 4],
+            rows: &[0, 2],
+        };
+        assert_eq!(
+            written(uniform, LONG, 256, 4),
+            (0, 3, [0x80, 0xAA, 0xAA, 0xAA])
+        );
     }
 }
 

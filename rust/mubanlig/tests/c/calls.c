@@ -27,6 +27,8 @@ static void check(int holds, const char *claim, int line)
 #define OUT 70
 /* The numbers of fgd, and some behind. */
 #define GRAIN (MUBANLIG_GRAIN_NUMBERS + 2)
+/* The bytes for a layout that is written, and some behind. */
+#define WRITTEN (MUBANLIG_LAYOUT_BYTES + 3)
 
 struct record {
     size_t position;
@@ -40,16 +42,18 @@ struct record {
     uint16_t rows[MUBANLIG_STARTS];
     uint32_t out[OUT];
     int16_t fgd[GRAIN];
+    uint8_t written[WRITTEN];
+    uint32_t bits;
 };
 
 /* How long each buffer is told to be. */
 struct lengths {
-    size_t delta_q, masks, hdr, info, cols, rows, out, fgd;
+    size_t delta_q, masks, hdr, info, cols, rows, out, fgd, written;
 };
 
 static const struct lengths LONG = {
     MUBANLIG_DELTAS, MUBANLIG_MASKS, MUBANLIG_HEADER_NUMBERS, MUBANLIG_INFO_BYTES, MUBANLIG_STARTS, MUBANLIG_STARTS, OUT,
-    MUBANLIG_GRAIN_NUMBERS
+    MUBANLIG_GRAIN_NUMBERS, WRITTEN
 };
 
 /* A copy in a block of its own; NULL for length 0. */
@@ -93,7 +97,8 @@ static int same(const struct record *a, const struct record *b)
         && memcmp(a->delta_q, b->delta_q, sizeof a->delta_q) == 0 && memcmp(a->masks, b->masks, sizeof a->masks) == 0
         && memcmp(a->hdr, b->hdr, sizeof a->hdr) == 0 && memcmp(a->info, b->info, sizeof a->info) == 0
         && memcmp(a->cols, b->cols, sizeof a->cols) == 0 && memcmp(a->rows, b->rows, sizeof a->rows) == 0
-        && memcmp(a->out, b->out, sizeof a->out) == 0 && memcmp(a->fgd, b->fgd, sizeof a->fgd) == 0;
+        && memcmp(a->out, b->out, sizeof a->out) == 0 && memcmp(a->fgd, b->fgd, sizeof a->fgd) == 0
+        && memcmp(a->written, b->written, sizeof a->written) == 0 && a->bits == b->bits;
 }
 
 /* ---- Calls ---- */
@@ -251,6 +256,21 @@ static uint32_t film_grain(struct bytes b, struct record *r, struct lengths n, u
     return answer;
 }
 
+static uint32_t write_layout(struct record *r, struct lengths n, struct layout_args a)
+{
+    LEND(const uint8_t, info, r->info, n.info);
+    LEND(const uint16_t, cols, r->cols, n.cols);
+    LEND(const uint16_t, rows, r->rows, n.rows);
+    LEND(uint8_t, written, r->written, n.written);
+    uint32_t answer = mubanlig_write_tile_info(info, n.info, cols, n.cols, rows, n.rows,
+        a.sbmul, a.sb128, a.seq_sb128, a.w, a.h, a.level, a.tier, written, n.written, &r->bits);
+    free((void *)info);
+    free((void *)cols);
+    free((void *)rows);
+    TAKE_BACK(written, r->written, n.written);
+    return answer;
+}
+
 #define READINGS 10
 
 /* The reading of a number; signed ones as unsigned. */
@@ -312,6 +332,7 @@ static void interfaces(void)
     CHECK(mubanlig_interface_3() == MUBANLIG_INTERFACE);
     CHECK(mubanlig_within_interface_3() == MUBANLIG_INTERFACE);
     CHECK(mubanlig_grain_interface_3() == MUBANLIG_INTERFACE);
+    CHECK(mubanlig_write_interface_3() == MUBANLIG_INTERFACE);
 }
 
 static void readings_of_known_bytes(void)
@@ -379,6 +400,8 @@ static void no_data(void)
         NULL, 0, NULL, 0, NULL, 0, 0, 64, 64, 0, 0, MUBANLIG_OFF, NULL, 0, NULL, 0, NULL, 0,
         MUBANLIG_PANEL_COLS, MUBANLIG_PANEL_ROWS) == MUBANLIG_SHORT_BUFFER);
     CHECK(mubanlig_parse_film_grain_data(NULL, 0, &r.position, &r.error, MUBANLIG_I420, NULL, 0) == MUBANLIG_SHORT_BUFFER);
+    r.bits = 7;
+    CHECK(mubanlig_write_tile_info(NULL, 0, NULL, 0, NULL, 0, 1, 0, 0, 64, 64, 0, 0, NULL, 0, &r.bits) == MUBANLIG_SHORT_BUFFER);
     CHECK(same(&r, &zero));
 }
 
@@ -618,6 +641,104 @@ static void refused_film_grain(void)
     }
 }
 
+/* Was the call refused with this number: no bits, and all else as it was? */
+static int refused_writing(struct record *r, struct lengths n, struct layout_args a, uint32_t number)
+{
+    struct record given = *r;
+    given.bits = 0;
+    r->bits = 77;
+    return write_layout(r, n, a) == number && same(r, &given);
+}
+
+/* 600 by 128 samples, the codes 1 and 2: 1110, 1111 and 00110 give the same tiles, and are written as they were read. */
+static void a_written_layout(void)
+{
+    static const struct layout_args A = { 2, 1, 2, 600, 128, 0, 0 };
+    static const struct { uint8_t byte; uint32_t bits; } ROWS[] = { { 0xE0, 4 }, { 0xF0, 4 }, { 0x30, 5 } };
+    struct lengths n = LONG;
+    struct record r, back, first = filled(0);
+    size_t i;
+    CHECK(layout(some(&ROWS[0].byte, 1), &first, LONG, A) == MUBANLIG_ACCEPTED);
+    for (i = 0; i < sizeof ROWS / sizeof ROWS[0]; i++) {
+        struct record fresh = filled(0);
+        CHECK(layout(some(&ROWS[i].byte, 1), &fresh, LONG, A) == MUBANLIG_ACCEPTED && fresh.position == ROWS[i].bits);
+        CHECK(memcmp(fresh.cols, first.cols, sizeof fresh.cols) == 0 && memcmp(fresh.rows, first.rows, sizeof fresh.rows) == 0);
+        memset(fresh.written, 0xA5, sizeof fresh.written);
+        for (n.written = 1; n.written <= 3; n.written++) {
+            r = fresh;
+            CHECK(write_layout(&r, n, A) == MUBANLIG_ACCEPTED && r.bits == ROWS[i].bits && r.written[0] == ROWS[i].byte);
+            r.written[0] = fresh.written[0];
+            r.bits = fresh.bits;
+            CHECK(same(&r, &fresh));
+        }
+        /* Starts behind the closing ones don't count, and a flag is any byte but 0. */
+        r = fresh;
+        r.cols[4] = 9;
+        r.rows[2] = 9;
+        r.info[MUBANLIG_INFO_UNIFORM] = (uint8_t)(0x80 * r.info[MUBANLIG_INFO_UNIFORM]);
+        CHECK(write_layout(&r, LONG, A) == MUBANLIG_ACCEPTED && r.bits == ROWS[i].bits);
+        back = filled(0);
+        CHECK(layout(some(r.written, sizeof r.written), &back, LONG, A) == MUBANLIG_ACCEPTED && back.position == r.bits && back.error == 0);
+        CHECK(memcmp(back.info, fresh.info, sizeof back.info) == 0 && memcmp(back.cols, fresh.cols, sizeof back.cols) == 0);
+        CHECK(memcmp(back.rows, fresh.rows, sizeof back.rows) == 0);
+    }
+}
+
+/* Short parts of the layout first, then the arguments, the record and the bytes. */
+static void refused_layouts(void)
+{
+    static const uint8_t S[] = { 0xF0 };
+    static const struct layout_args A = { 2, 1, 2, 600, 128, 0, 0 };
+    struct record fresh = filled(0), r;
+    size_t i, j;
+    CHECK(layout(some(S, sizeof S), &fresh, LONG, A) == MUBANLIG_ACCEPTED);
+    memset(fresh.written, 0xA5, sizeof fresh.written);
+    for (j = 0; j < 2; j++) {
+        struct lengths n = LONG;
+        n.written = j;
+        r = fresh;
+        CHECK(j == 0 ? refused_writing(&r, n, A, MUBANLIG_SHORT_BUFFER) : write_layout(&r, n, A) == MUBANLIG_ACCEPTED);
+        /* Each byte of info, a start, both closing ones. */
+        for (i = 0; i < 12; i++) {
+            struct layout_args wrong = A;
+            r = fresh;
+            if (i < 9) {
+                r.info[i] = (uint8_t)(r.info[i] == 0 ? 1 : r.info[i] == 3 ? 7 : 0);
+            } else if (i == 9) {
+                r.cols[1]++;
+            } else if (i == 10) {
+                r.cols[3]++;
+            } else {
+                r.rows[1]++;
+            }
+            CHECK(refused_writing(&r, n, A, MUBANLIG_NO_SUCH_LAYOUT));
+            wrong.h = i % 2 ? 0 : 65537;
+            CHECK(refused_writing(&r, n, wrong, MUBANLIG_WRONG_ARGUMENTS));
+            n.cols--;
+            CHECK(refused_writing(&r, n, wrong, MUBANLIG_SHORT_BUFFER));
+            n.cols++;
+        }
+        for (i = 0; i < 6; i++) {
+            struct layout_args wrong = A;
+            if (i == 0) {
+                wrong.sbmul = 1;
+            } else if (i == 1) {
+                wrong.sb128 = 3;
+            } else if (i == 2) {
+                wrong.seq_sb128 = 1;
+            } else if (i == 3) {
+                wrong.w = -1;
+            } else if (i == 4) {
+                wrong.level = 32;
+            } else {
+                wrong.tier = 2;
+            }
+            r = fresh;
+            CHECK(refused_writing(&r, n, wrong, MUBANLIG_WRONG_ARGUMENTS));
+        }
+    }
+}
+
 /* Refused calls, and what was lent comes back as it was. */
 static void refusals(void)
 {
@@ -755,6 +876,8 @@ static void short_buffers(void)
         }
         r = given;
         CHECK(rectangles(&r, n, 0, 64, 64) == MUBANLIG_SHORT_BUFFER && same(&r, &given));
+        r = given;
+        CHECK(refused_writing(&r, n, SMALL, MUBANLIG_SHORT_BUFFER));
     }
 }
 
@@ -900,6 +1023,36 @@ static void random_film_grain(struct bytes b, const struct record *given)
     }
 }
 
+/* Any record, and one that was read from the first bit on without error: the bits that it used are written. */
+static void random_writing(struct bytes b, const struct record *given, struct layout_args a)
+{
+    struct record fresh = filled(0), back = filled(0), r = *given;
+    struct lengths n = LONG;
+    uint32_t answer = write_layout(&r, n, a);
+    size_t bytes, i;
+    CHECK(answer == MUBANLIG_NO_SUCH_LAYOUT || answer == MUBANLIG_WRONG_ARGUMENTS);
+    r.bits = given->bits;
+    CHECK(same(&r, given));
+    if (layout(b, &fresh, LONG, a) != MUBANLIG_ACCEPTED || fresh.error != 0) {
+        return;
+    }
+    bytes = (fresh.position + 7) / 8;
+    r = fresh;
+    memcpy(r.written, given->written, sizeof r.written);
+    n.written = bytes - 1;
+    CHECK(refused_writing(&r, n, a, MUBANLIG_SHORT_BUFFER));
+    n.written = bytes + below(3);
+    CHECK(write_layout(&r, n, a) == MUBANLIG_ACCEPTED && r.bits == fresh.position);
+    for (i = 0; i < bytes; i++) {
+        uint8_t padding = (uint8_t)(i + 1 < bytes ? 0 : (1u << (8 * bytes - r.bits)) - 1);
+        CHECK(r.written[i] == (b.s[i] & (uint8_t)~padding));
+    }
+    CHECK(memcmp(r.written + bytes, given->written + bytes, sizeof r.written - bytes) == 0);
+    CHECK(layout(some(r.written, n.written), &back, LONG, a) == MUBANLIG_ACCEPTED && back.position == r.bits && back.error == 0);
+    CHECK(memcmp(back.info, fresh.info, sizeof back.info) == 0 && memcmp(back.cols, fresh.cols, sizeof back.cols) == 0);
+    CHECK(memcmp(back.rows, fresh.rows, sizeof back.rows) == 0);
+}
+
 /* A limit beside the counts that were read, the panel's, or any. */
 static struct limit any_limit(const struct record *on_wall)
 {
@@ -968,6 +1121,7 @@ static void random_turn(void)
     limit = any_limit(&on_wall);
     r = given;
     CHECK(limited(&given, &on_wall, answer, &r, layout_in(b, &r, LONG, a, &limit), limit));
+    random_writing(b, &given, a);
 
     r = given;
     a.sb128 = (uint8_t)below(3);
@@ -1027,6 +1181,8 @@ int main(void)
     within_limits();
     a_film_grain();
     refused_film_grain();
+    a_written_layout();
+    refused_layouts();
     refusals();
     short_buffers();
     past_the_end();

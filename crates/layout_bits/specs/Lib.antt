@@ -1,0 +1,4 @@
+pub mod Rows
+pub mod Bits
+pub mod Readable
+pub mod LayoutCode
