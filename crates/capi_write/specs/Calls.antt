@@ -6,7 +6,7 @@ use Rattle.answers.specs.declared.Answer.the-variants.{ShortBuffer}
 use Rattle.getbits.specs.Chain.{pick, then}
 use Rattle.flat.specs.Layout.{Buffers, hasRoom, layoutIn}
 use Rattle.tile_layout.specs.declared.TileArgs.{TileArgs}
-use Rattle.tile_write.specs.Write.{writeTileInfo}
+use Rattle.layout_writing.specs.Write.{writeTileInfo}
 
 -- write_tile_info over the buffers of a layout: the answer's number, how many bits, and the buffer that they are written into
 unfoldable pub lentWrite : Buffers → TileArgs → List ℕ → ℕ × ℕ × List ℕ

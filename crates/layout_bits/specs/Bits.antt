@@ -16,11 +16,11 @@ unfoldable pub bitsOf : ℕ → ℕ → List ℕ
 bitsOf zero v = []
 bitsOf (suc n) v = bitsOf n (v / 2) ++ (v % 2 ∷ [])
 
--- what get_uniform(max) reads v from: of max numbers the first m = 2 ^ l - max have l - 1 bits, l being the bit length of max,
--- and a later v is v + m in l bits; max at most 1 has no bit
+-- how many of max numbers have a shorter code: m = 2 ^ l - max, l being the bit length of max
 abbrev pub shorter : ℕ → ℕ
 shorter max = 2 ^ bitLength max - max
 
+-- what get_uniform(max) reads v from: one of the first m numbers in l - 1 bits, a later one as v + m in l bits; max at most 1 has no bit
 unfoldable pub uniformCode : ℕ → ℕ → List ℕ
 uniformCode max v =
     pick (leb max 1) [] (pick (ltb v (shorter max)) (bitsOf (bitLength max - 1) v) (bitsOf (bitLength max) (v + shorter max)))
@@ -48,10 +48,11 @@ sizesCode remains limit (z ∷ zs) = uniformCode (min remains limit) (z - 1) ++ 
 unfoldable pub sidesCode : TileArgs → List ℕ → List ℕ → List ℕ
 sidesCode a widths heights = sizesCode (sbw a) (widthLimit a) widths ++ sizesCode (sbh a) (rowLimit a (widest widths)) heights
 
--- the sizes of a record's columns and rows: each start less the one before it, up to the closing one
+-- the sizes of a record's columns: each start less the one before it, up to the closing one
 abbrev pub colSizes : TileInfo → List ℕ
 colSizes t = tabulate (colSize t) 0 (t .cols)
 
+-- and of its rows
 abbrev pub rowSizes : TileInfo → List ℕ
 rowSizes t = tabulate (rowSize t) 0 (t .rows)
 

@@ -8,7 +8,7 @@ use Rattle.tile_layout.specs.declared.TileInfo.{TileInfo}
 use Rattle.tile_layout.specs.Limits.{sbw, sbh, widthLimit, minLog2Cols, maxLog2Cols, maxLog2Rows, minLog2Tiles}
 use Rattle.tile_layout.specs.Layout.{sum, widest, rowLimit, uniformInfo, nonUniformInfo}
 
--- a logarithm from its least to its largest; to its least, where that is above
+-- a logarithm from its least to its largest; the least alone, where that is above the largest
 pub record InLog (least most log : ℕ) : Type 0 where
   pub low : least ≤ log
   pub high : log ≤ least + (most - least)

@@ -1,4 +1,4 @@
--- The row of bits of a layout, for arguments in the domain and at most 64 columns and rows: else there is none.
+-- The row of bits that is made of a layout.
 use mathlib.Core.Bool.{Bool, _&&_}
 use mathlib.Core.List.{List, []}
 use Prim.Native.Nat.{ℕ}
@@ -9,8 +9,10 @@ use Rattle.tile_layout.specs.declared.TileInfo.{TileInfo}
 use Rattle.tile_layout.specs.Limits.{inDomain}
 use Rattle.layout_bits.specs.Bits.{layoutBits}
 
+-- is one made? For arguments in the domain, at most 64 columns and at most 64 rows
 abbrev pub hasRow : TileArgs → TileInfo → Bool
 hasRow a t = inDomain a && leb (t .cols) 64 && leb (t .rows) 64
 
+-- the layout's bits, or none
 unfoldable pub rowOf : TileArgs → TileInfo → List ℕ
 rowOf a t = pick (hasRow a t) (layoutBits a t) []

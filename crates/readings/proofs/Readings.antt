@@ -23,7 +23,7 @@ use Rattle.frame_hdr.specs.Frame.{startsLow, usableTiles, usable, inFrameDomain
 use Rattle.rectangles.specs.Rectangles.{rising, hasRectangles, each, rectangles, tileRectangles}
 use Rattle.layout_bits.specs.Rows.{bytesOf}
 use Rattle.layout_bits.specs.Bits.{bitsOf, uniformCode, onesCode, logsCode, sizesCode, sidesCode, layoutBits}
-use Rattle.tile_write.specs.Write.{sameList, sameNumbers, sameLayout, readsAs, writeTileInfo}
+use Rattle.layout_writing.specs.Write.{sameList, sameNumbers, sameLayout, readsAs, writeTileInfo}
 use Rattle.readings.specs.Readings.{Row, answerTo, Holds, table, EveryRowHolds}
 
 -- every row of a list holds

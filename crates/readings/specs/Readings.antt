@@ -25,7 +25,7 @@ use Rattle.frame_hdr.specs.declared.FrameRead.{FrameRead}
 use Rattle.frame_hdr.specs.declared.FrameType.the-variants.{Inter}
 use Rattle.frame_hdr.specs.declared.SeqLayout.{SeqLayout}
 use Rattle.rectangles.specs.Rectangles.{rectangleNumbers, tileRectangles}
-use Rattle.tile_write.specs.Write.{writeTileInfo}
+use Rattle.layout_writing.specs.Write.{writeTileInfo}
 
 -- what is read: bytes as a layout for these arguments, or bytes as a sequence header; the rectangles of such a layout, in its own frame or in another that
 -- reuses it; or such a layout written again

@@ -1,3 +1,1 @@
-pub mod Same
-pub mod Reading
-pub mod Writing
+pub mod Row

@@ -4,11 +4,12 @@ ghost use mathlib.Core.Path.{_≡_};
 ghost use Prim.Native.Nat.{_+_, _≤_};
 ghost use lib.ListN.{length, take, drop};
 ghost use Rattle.tile_layout.specs.Limits.{argsOf};
-ghost use Rattle.tile_write.specs.Write.{sameFlag, sameList, sameNumbers, sameLayout, readsAs, refusal, writeTileInfo};
+ghost use Rattle.layout_writing.specs.Write.{sameFlag, sameList, sameNumbers, sameLayout, readsAs, refusal, writeTileInfo};
 use answers::Answer;
 use answers::is_refusal;
 use getbits::Place;
 use layout_row::layout_row;
+use layout_writing::Written;
 use tile_info::parse_tile_info;
 use tile_layout::TileInfo;
 use tile_layout::TileRead;
@@ -16,12 +17,6 @@ use tile_layout::in_domain;
 use tile_layout::no_tile_info;
 use tile_layout::start_at;
 use tile_layout::tile_args;
-
-// The answer, and how many bits were written: none where it is a refusal.
-pub struct Written {
-    pub answer: Answer,
-    pub bits: u32,
-}
 
 fn same_flag(a: bool, b: bool) -> bool
     ensures { λ r. ⌜ r ≡ sameFlag a b ⌝ }

@@ -15,9 +15,9 @@ use Rattle.layout_bits.proofs.Packed.{bytes-length}
 use Rattle.tile_layout.specs.declared.TileArgs.{TileArgs}
 use Rattle.tile_layout.specs.declared.TileInfo.{TileInfo}
 use Rattle.tile_layout.specs.Limits.{inDomain}
-use Rattle.tile_write.specs.declared.Written.{Written}
-use Rattle.tile_write.specs.Write.{again, readsAs, writeTileInfo}
-use Rattle.tile_write.proofs.Reading.{start, short, some-bits}
+use Rattle.layout_writing.specs.declared.Written.{Written}
+use Rattle.layout_writing.specs.Write.{again, readsAs, writeTileInfo}
+use Rattle.layout_writing.proofs.Reading.{start, short, some-bits}
 
 -- the first n of m equal numbers
 pub front : (x n m : ℕ) → n ≤ m → take n (replicate m x) ≡ replicate n x

@@ -13,7 +13,7 @@ use Rattle.tile_layout.specs.Layout.{rowArea, rowLimit, readCols, readRows, non
 use Rattle.superblocks.specs.Counts.{multiplierOf}
 use Rattle.layout_bits.specs.Rows.{bytesOf}
 use Rattle.layout_bits.specs.Bits.{bitsOf, uniformCode, onesCode, logsCode, sizesCode, sidesCode, layoutBits}
-use Rattle.tile_write.specs.Write.{sameList, sameNumbers, sameLayout, readsAs, writeTileInfo}
+use Rattle.layout_writing.specs.Write.{sameList, sameNumbers, sameLayout, readsAs, writeTileInfo}
 use Rattle.text.specs.Text.{word, decimal, decimalIn, nexts, row}
 use Rattle.program.specs.Output.{refusedText}
 use Rattle.write.specs.Request.{startsAt, givenLayout}

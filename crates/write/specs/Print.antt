@@ -8,7 +8,7 @@ use Rattle.getbits.specs.Chain.{pick}
 use Rattle.program.specs.Input.{twoAt}
 use Rattle.program.specs.Output.{refusedText}
 use Rattle.text.specs.Text.{word, nexts, row, line}
-use Rattle.tile_write.specs.declared.Written.{Written}
+use Rattle.layout_writing.specs.declared.Written.{Written}
 use Rattle.write.specs.Request.{writeRequest}
 
 -- accepted: ok and the number of bits; then the bytes written, one for each eight bits begun

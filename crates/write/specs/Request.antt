@@ -6,8 +6,8 @@ use Rattle.program.specs.Input.{byteAt, twoAt}
 use Rattle.tile_layout.specs.Layout.{tabulate}
 use Rattle.tile_layout.specs.declared.TileInfo.{TileInfo}
 use Rattle.tile_request.specs.Request.{requestArgs}
-use Rattle.tile_write.specs.declared.Written.{Written}
-use Rattle.tile_write.specs.Write.{writeTileInfo}
+use Rattle.layout_writing.specs.declared.Written.{Written}
+use Rattle.layout_writing.specs.Write.{writeTileInfo}
 
 -- 65 starts from byte i on, two bytes each
 unfoldable pub startsAt : List ℕ → ℕ → List ℕ

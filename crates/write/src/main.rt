@@ -8,6 +8,7 @@ ghost use Rattle.write.specs.Print.{bitsText, writtenText, requestText, 
 ghost use Rattle.write.specs.Request.{startsAt, givenLayout, writeRequest};
 use answers::is_refusal;
 use answers::number;
+use layout_writing::Written;
 use lent::is_set;
 use libc::STDIN_FILENO;
 use libc::STDOUT_FILENO;
@@ -20,7 +21,6 @@ use text::put_line;
 use tile_layout::TileInfo;
 use tile_request::multiplier;
 use tile_request::samples;
-use tile_write::Written;
 use tile_write::write_tile_info;
 
 fn starts_at(s: &[u8], i: usize) -> [u16; 65]

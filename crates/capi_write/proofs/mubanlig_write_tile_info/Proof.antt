@@ -13,9 +13,9 @@ use Rattle.tile_layout.specs.declared.TileArgs.{TileArgs}
 use Rattle.tile_layout.specs.declared.TileInfo.{TileInfo}
 use Rattle.tile_layout.specs.Limits.{argsOf}
 use Rattle.flat.specs.Layout.{buffers, layoutIn}
-use Rattle.tile_write.specs.declared.Written.{Written}
-use Rattle.tile_write.specs.Write.{writeTileInfo}
-use Rattle.tile_write.proofs.Writing.{kept}
+use Rattle.layout_writing.specs.declared.Written.{Written}
+use Rattle.layout_writing.specs.Write.{writeTileInfo}
+use Rattle.layout_writing.proofs.Writing.{writing}
 use Rattle.capi_write.specs.Calls.{lentWrite}
 use Rattle.capi_write.proofs.mubanlig_write_tile_info.Statement.{statement}
 use Rattle.capi_write.proofs.mubanlig_write_tile_info.Tie as tie
@@ -46,7 +46,7 @@ returns-2 c =
     let f = s .fits in
     let done = rw (t .tile-info-of .ensures, toZ-ofZ (f .sbmul), toZ-ofZ (f .w), toZ-ofZ (f .h)) at (k .write-tile-info .ensures) in
     let left-so : (c .number .result ≡ 0 → ⊥) → (writeTileInfo (args s) (given s) (s .args .out .now) .0 .bits ≡ 0) × (writeTileInfo (args s) (given s) (s .args .out .now) .1 ≡ s .args .out .now) =
-    λ h. kept (args s) (given s) (s .args .out .now) (ap (λ (z : Written × List ℕ). isRefusal (z .0 .answer)) (sym done) ∙ refused-unless-0 (k .write-tile-info .result .answer) (λ n. h (c .number .ensures ∙ n))) in (
+    λ h. writing .unwritten (args s) (given s) (s .args .out .now) (ap (λ (z : Written × List ℕ). isRefusal (z .0 .answer)) (sym done) ∙ refused-unless-0 (k .write-tile-info .result .answer) (λ n. h (c .number .ensures ∙ n))) in (
       rw (c .number .ensures) (ap (λ (z : Written × List ℕ). (numberOf (z .0 .answer), z .0 .bits, z .1)) done ∙ sym (taken _ _ _ has)),
       ((λ h. ap (λ (z : Written × List ℕ). z .1) done ∙ left-so h .1), λ h. ap (λ (z : Written × List ℕ). z .0 .bits) done ∙ left-so h .0),
     )

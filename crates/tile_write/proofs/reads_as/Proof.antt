@@ -1,7 +1,7 @@
 -- `tile_write::reads_as` meets its contract. Assumes nothing.
 use mathlib.Core.Path.{refl}
 use borrow.Author.Needs.{needs}
-use Rattle.tile_write.specs.Write.{readsAs}
+use Rattle.layout_writing.specs.Write.{readsAs}
 use Rattle.tile_write.proofs.reads_as.Statement.{statement}
 use Rattle.tile_write.proofs.reads_as.Tie as tie
 

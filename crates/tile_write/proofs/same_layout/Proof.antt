@@ -2,7 +2,7 @@
 use mathlib.Core.Path.{refl, sym, _∙_}
 use borrow.Author.Needs.{needs}
 use Rattle.tile_layout.proofs.Lengths.{cols-length, rows-length}
-use Rattle.tile_write.specs.Write.{sameLayout}
+use Rattle.layout_writing.specs.Write.{sameLayout}
 use Rattle.tile_write.proofs.same_layout.Statement.{statement}
 use Rattle.tile_write.proofs.same_layout.Tie as tie
 

@@ -1,6 +1,6 @@
 -- `tile_write::same_numbers` meets its contract. Assumes nothing.
 use mathlib.Core.Path.{refl}
-use Rattle.tile_write.specs.Write.{sameNumbers}
+use Rattle.layout_writing.specs.Write.{sameNumbers}
 use Rattle.tile_write.proofs.same_numbers.Statement.{statement}
 use Rattle.tile_write.proofs.same_numbers.Tie as tie
 

@@ -6,7 +6,7 @@ use native.Mathlib.Omega.{arith}
 use borrow.Author.Needs.{needs}
 use lib.ListN.{getD}
 use Rattle.getbits.proofs.Places.{lt-or-le}
-use Rattle.tile_write.proofs.Same.{starts-differ, starts-same}
+use Rattle.layout_writing.proofs.Same.{starts-differ, starts-same}
 use Rattle.tile_write.proofs.same_starts.Statement.{statement}
 use Rattle.tile_write.proofs.same_starts.Tie as tie
 

@@ -19,10 +19,11 @@ use Rattle.layout_bits.specs.Rows.{byteCount, bytesOf}
 use Rattle.layout_bits.specs.Bits.{layoutBits}
 use Rattle.layout_bits.proofs.Packed.{bytes-length, bytes-take}
 use Rattle.layout_row.specs.Row.{rowOf}
-use Rattle.tile_write.specs.declared.Written.{Written}
-use Rattle.tile_write.specs.Write.{fresh, again, readsAs, writeTileInfo}
-use Rattle.tile_write.specs.Promises.{SomeBits}
-use Rattle.tile_write.proofs.Reading.{start, asked, some-bits, row-known, short}
+use Rattle.layout_writing.specs.declared.Written.{Written}
+use Rattle.layout_writing.specs.Write.{fresh, again, readsAs, writeTileInfo}
+use Rattle.layout_writing.specs.Promises.{SomeBits}
+use Rattle.layout_writing.proofs.Reading.{start, some-bits, short}
+use Rattle.tile_write.proofs.Row.{row-known, asked}
 use Rattle.tile_write.proofs.write_tile_info.Statement.{statement}
 use Rattle.tile_write.proofs.write_tile_info.Tie as tie
 

@@ -4,12 +4,10 @@ use mathlib.Core.List.{List}
 use mathlib.Core.Path.{_≡_, refl, sym, ap, _∙_}
 use Prim.Native.Nat.{ℕ, zero, suc, _+_, _-_, _*_, _≤_, _<_}
 use native.Mathlib.Omega.{arith}
-use borrow.Author.Tests.{le-leb}
 use lib.ListN.{length, getD, take}
 use lib.Seq.{getD-take}
 use Rattle.getbits.specs.Bits.{position, placeAt}
 use Rattle.getbits.specs.declared.Place.{Place}
-use Rattle.getbits.proofs.Chain.{taken}
 use Rattle.getbits.proofs.Places.{pos-at}
 use Rattle.tile_layout.specs.declared.TileArgs.{TileArgs}
 use Rattle.tile_layout.specs.declared.TileInfo.{TileInfo}
@@ -26,10 +24,9 @@ use Rattle.layout_bits.proofs.Rows.{between}
 use Rattle.layout_bits.proofs.Layouts.{layout-code}
 use Rattle.layout_bits.proofs.Lengths.{layout-length}
 use Rattle.layout_bits.proofs.Packed.{bytes-stand, small-layout}
-use Rattle.layout_row.specs.Row.{rowOf}
-use Rattle.tile_write.specs.Write.{fresh, again, readsAs}
-use Rattle.tile_write.specs.Promises.{trimmed, SomeBits}
-use Rattle.tile_write.proofs.Same.{same-bool, all, reads-only, reads-same}
+use Rattle.layout_writing.specs.Write.{fresh, again, readsAs}
+use Rattle.layout_writing.specs.Promises.{trimmed, SomeBits}
+use Rattle.layout_writing.proofs.Same.{reads-only, reads-same}
 
 -- ---- records that are alike up to the closing entries have the same bits
 
@@ -121,18 +118,3 @@ module _ (a : TileArgs) (t : TileInfo) where
   -- so its own bits, padded, decide
   pub own : SomeBits a t → readsAs (again a t) t ≡ true
   own b = reads-on b (packed bits) (stands (byteCount bits) (omega arith))
-
--- ---- as the code reads it: from 177 bytes with the row of bits in front
-
-module _ (a : TileArgs) (t : TileInfo) (b : SomeBits a t) where
-  pub row-known : rowOf a t ≡ layoutBits a t
-  unfolding rowOf
-  row-known = taken _ _ _ (all (all (domained a t b) (le-leb _ _ (few a t b .0))) (le-leb _ _ (few a t b .1)))
-
-pub asked : (a : TileArgs) (t : TileInfo) → readsAs (fresh (bytesOf 177 (rowOf a t)) start a) t ≡ readsAs (again a t) t
-asked a t =
-    same-bool _ _
-    (λ h. own a t (some-bits a t _ start h))
-    (λ h.
-    let b = some-bits a t _ start h in
-    rw (row-known a t b) (reads-on a t b (bytesOf 177 (layoutBits a t)) (stands a t 177 (omega (arith, short a t b)))))

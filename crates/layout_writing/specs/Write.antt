@@ -17,22 +17,24 @@ use Rattle.tile_layout.specs.Limits.{inDomain, noTileInfo}
 use Rattle.tile_layout.specs.Layout.{parseTileInfo}
 use Rattle.layout_bits.specs.Rows.{byteCount, packed}
 use Rattle.layout_bits.specs.Bits.{layoutBits}
-use Rattle.tile_write.specs.declared.Written.{Written}
+use Rattle.layout_writing.specs.declared.Written.{Written}
 
 -- a reading over the zero record
 abbrev pub fresh : List ℕ → Place → TileArgs → TileRead
 fresh s p a = parseTileInfo s p noTileInfo a
 
+-- are two flags the same?
 abbrev pub sameFlag : Bool → Bool → Bool
 sameFlag a b = pick a b (not b)
 
+-- are two lists?
 unfoldable pub sameList : List ℕ → List ℕ → Bool
 sameList [] [] = true
 sameList [] (y ∷ ys) = false
 sameList (x ∷ xs) [] = false
 sameList (x ∷ xs) (y ∷ ys) = eqb x y && sameList xs ys
 
--- the eight numbers beside the flag
+-- are the eight numbers beside the flag?
 unfoldable pub sameNumbers : TileInfo → TileInfo → Bool
 sameNumbers t u =
     eqb (t .«min_log2_cols») (u .«min_log2_cols»)
@@ -44,7 +46,7 @@ sameNumbers t u =
     && eqb (t .«log2_rows») (u .«log2_rows»)
     && eqb (t .rows) (u .rows)
 
--- all nine numbers, and the starts up to and with the closing ones
+-- are all nine numbers, and the starts up to and with the closing ones?
 unfoldable pub sameLayout : TileInfo → TileInfo → Bool
 sameLayout t u =
     sameFlag (t .uniform) (u .uniform)
@@ -52,7 +54,7 @@ sameLayout t u =
     && sameList (take (t .cols + 1) (t .«col_start_sb»)) (take (t .cols + 1) (u .«col_start_sb»))
     && sameList (take (t .rows + 1) (t .«row_start_sb»)) (take (t .rows + 1) (u .«row_start_sb»))
 
--- accepted without error, and gives t
+-- is a reading accepted without error, and does it give t?
 unfoldable pub readsAs : TileRead → TileInfo → Bool
 readsAs r t = not (isRefusal (r .answer)) && not (r .next .error) && sameLayout (r .info) t
 

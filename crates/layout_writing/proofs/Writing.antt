@@ -7,6 +7,7 @@ use native.Mathlib.Omega.{arith}
 use borrow.Author.Tests.{le-leb, leb-false}
 use lib.Dec.{T, leb}
 use lib.ListN.{length, drop, length-append, List·getD-append}
+use lib.Seq.{drop-at}
 use Rattle.answers.specs.Numbers.{numberOf, isRefusal}
 use Rattle.answers.specs.declared.Answer.the-variants.{ShortBuffer}
 use Rattle.getbits.specs.Chain.{pick}
@@ -19,11 +20,11 @@ use Rattle.layout_bits.specs.Rows.{StandsAt, byteCount, packed}
 use Rattle.layout_bits.specs.Bits.{layoutBits}
 use Rattle.layout_bits.proofs.Layouts.{layout-code}
 use Rattle.layout_bits.proofs.Packed.{bytes-length, bytes-lt, small-layout}
-use Rattle.tile_write.specs.declared.Written.{Written}
-use Rattle.tile_write.specs.Write.{again, readsAs, refusal, written, writeTileInfo}
-use Rattle.tile_write.specs.Promises.{trimmed, SomeBits, Bytes, ReadsAs, Writing}
-use Rattle.tile_write.proofs.Same.{not-so}
-use Rattle.tile_write.proofs.Reading.{domained, row-is, back, short, start, from-start, stands, some-bits, own}
+use Rattle.layout_writing.specs.declared.Written.{Written}
+use Rattle.layout_writing.specs.Write.{again, readsAs, refusal, written, writeTileInfo}
+use Rattle.layout_writing.specs.Promises.{trimmed, SomeBits, Bytes, ReadsAs, Writing}
+use Rattle.layout_writing.proofs.Same.{not-so}
+use Rattle.layout_writing.proofs.Reading.{domained, row-is, back, short, start, from-start, stands, some-bits, own}
 
 module _ (a : TileArgs) (t : TileInfo) where
   abbrev bits : List ℕ
@@ -76,9 +77,9 @@ module _ (a : TileArgs) (t : TileInfo) where
         Fine w = isRefusal (w .0 .answer) ≡ false → SomeBits a t × (w ≡ written bits out)
 
     -- refused, no bit is told, and the buffer is as it was
-    pub kept : isRefusal (writeTileInfo a t out .0 .answer) ≡ true → (writeTileInfo a t out .0 .bits ≡ 0) × (writeTileInfo a t out .1 ≡ out)
+    unwritten : isRefusal (writeTileInfo a t out .0 .answer) ≡ true → (writeTileInfo a t out .0 .bits ≡ 0) × (writeTileInfo a t out .1 ≡ out)
     unfolding writeTileInfo
-    kept =
+    unwritten =
         picked Kept (inDomain a) _ _
         (λ _.
         picked Kept (readsAs (again a t) t) _ _
@@ -136,6 +137,8 @@ writing =
           λ room. rw q (asked a t out b ∙ taken _ _ _ (le-leb (byteCount (layoutBits a t)) (length out) (rw q at room)));
       refused-with-8 = λ a t out. none a t out;
       only-then = λ a t out e b. not-8 a t out b e;
+      behind = λ a t out ok. rw (accepted a t out ok .1) (drop-at (packed (layoutBits a t)) _ _ (bytes-length _ (layoutBits a t)));
+      unwritten = λ a t out. unwritten a t out;
       readable = λ a t d k.
           let st = from-start _ _ (stands a t (byteCount (layoutBits a t)) (omega arith)) in
           let r = layout-code .reads (packed (layoutBits a t)) start noTileInfo a t d k st in

@@ -2,8 +2,8 @@
 use mathlib.Core.Path.{_≡_}
 use mathlib.Core.Bool.{true, false}
 use mathlib.Core.List.{List}
-use Prim.Native.Nat.{ℕ, _+_, _≤_, _<_}
-use lib.ListN.{length, getD, take}
+use Prim.Native.Nat.{ℕ, _+_, _/_, _≤_, _<_}
+use lib.ListN.{length, getD, take, drop}
 use Rattle.answers.specs.Numbers.{numberOf, isRefusal}
 use Rattle.getbits.specs.Bits.{position, placeAt}
 use Rattle.getbits.specs.declared.Place.{Place}
@@ -14,7 +14,7 @@ use Rattle.tile_layout.specs.Limits.{inDomain, noTileInfo}
 use Rattle.layout_bits.specs.Rows.{usedBits, byteCount}
 use Rattle.layout_bits.specs.Readable.{Readable}
 use Rattle.layout_bits.specs.LayoutCode.{Clean}
-use Rattle.tile_write.specs.Write.{fresh, written, writeTileInfo}
+use Rattle.layout_writing.specs.Write.{fresh, written, writeTileInfo}
 
 -- the record up to and with the closing entries
 abbrev pub trimmed : TileInfo → TileInfo
@@ -64,6 +64,11 @@ pub record Writing : Type 0 where
   pub refused-with-8 : (a : TileArgs) (t : TileInfo) (out : List ℕ) → inDomain a ≡ true → ((b : SomeBits a t) → Bytes (b .bytes) → ⊥)
       → numberOf (writeTileInfo a t out .0 .answer) ≡ 8
   pub only-then : (a : TileArgs) (t : TileInfo) (out : List ℕ) → numberOf (writeTileInfo a t out .0 .answer) ≡ 8 → SomeBits a t → ⊥
+  -- bytes behind the last one written are kept; refused, all are, and no bit is told
+  pub behind : (a : TileArgs) (t : TileInfo) (out : List ℕ)
+      → (let w = writeTileInfo a t out in isRefusal (w .0 .answer) ≡ false → drop ((w .0 .bits + 7) / 8) (w .1) ≡ drop ((w .0 .bits + 7) / 8) out)
+  pub unwritten : (a : TileArgs) (t : TileInfo) (out : List ℕ)
+      → (let w = writeTileInfo a t out in isRefusal (w .0 .answer) ≡ true → (w .0 .bits ≡ 0) × (w .1 ≡ out))
   -- some bits read as each record that can be read
   pub readable : (a : TileArgs) (t : TileInfo) → inDomain a ≡ true → Readable noTileInfo a t → SomeBits a t
   -- 177 bytes suffice for every record

@@ -13,14 +13,8 @@ use Rattle.getbits.proofs.Chain.{both}
 use Rattle.tile_layout.specs.declared.TileInfo.{TileInfo}
 use Rattle.tile_layout.specs.declared.TileRead.{TileRead}
 use Rattle.layout_bits.specs.LayoutCode.{Clean}
-use Rattle.tile_write.specs.Write.{sameFlag, sameList, sameNumbers, sameLayout, readsAs}
-use Rattle.tile_write.specs.Promises.{trimmed}
-
--- two answers that imply each other are the same
-pub same-bool : (a b : Bool) → (a ≡ true → b ≡ true) → (b ≡ true → a ≡ true) → a ≡ b
-same-bool true b f g = sym (f refl)
-same-bool false true f g = g refl
-same-bool false false f g = refl
+use Rattle.layout_writing.specs.Write.{sameFlag, sameList, sameNumbers, sameLayout, readsAs}
+use Rattle.layout_writing.specs.Promises.{trimmed}
 
 pub not-so : (a : Bool) → (a ≡ true → ⊥) → a ≡ false
 not-so true f = absurd (f refl)
