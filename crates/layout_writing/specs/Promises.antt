@@ -60,7 +60,7 @@ pub record Writing : Type 0 where
   -- READ, THEN WRITE: what a reading from any place gave, accepted without error, is written as the bits that it used, where there is room
   pub read-write : (s : List ℕ) (p : Place) (a : TileArgs) (t : TileInfo) (out : List ℕ) → Clean (fresh s p a) → trimmed (fresh s p a .info) ≡ trimmed t
       → (let bits = usedBits s p (fresh s p a .next) in byteCount bits ≤ length out → writeTileInfo a t out ≡ written bits out)
-  -- 8 exactly when no bits read as the record: those of no byte string
+  -- 8 exactly when no bits of any byte string read as the record
   pub refused-with-8 : (a : TileArgs) (t : TileInfo) (out : List ℕ) → inDomain a ≡ true → ((b : SomeBits a t) → Bytes (b .bytes) → ⊥)
       → numberOf (writeTileInfo a t out .0 .answer) ≡ 8
   pub only-then : (a : TileArgs) (t : TileInfo) (out : List ℕ) → numberOf (writeTileInfo a t out .0 .answer) ≡ 8 → SomeBits a t → ⊥

@@ -56,4 +56,4 @@ pub use obu::{
     parse_tile_info_frmhdr_parts, parse_tile_info_frmhdr_within, parse_tile_info_within,
 };
 pub use rectangles::tile_rectangles;
-pub use writing::write_tile_info;
+pub use writing::{LAYOUT_BYTES, write_tile_info};

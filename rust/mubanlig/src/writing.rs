@@ -4,9 +4,12 @@ use crate::error::Error;
 use crate::ffi;
 use crate::headers::TileInfo;
 
+/// So many bytes are enough for every layout that [`write_tile_info`] writes.
+pub const LAYOUT_BYTES: usize = 177;
+
 /// Writes a layout into a buffer, as the bits that [`parse_tile_info`](crate::parse_tile_info) reads for the same arguments,
 /// and answers how many bits they are. They stand most significant first and are padded with zero bits to a byte; bytes
-/// behind the last one stay. 177 bytes are enough for every layout.
+/// behind the last one stay. [`LAYOUT_BYTES`] are enough for every layout.
 ///
 /// Read over `TileInfo::default()`, the bits give this layout up to its closing starts, use just so many bits and set no error.
 /// Bits that were read so are written again as they were.

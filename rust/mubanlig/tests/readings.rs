@@ -1,10 +1,10 @@
 //! The readings of document 01, and places where people trip.
 
 use mubanlig::{
-    AdaptiveBoolean, Error, FilmGrainData, FrameHeader, FrameType, GetBits, PixelLayout, Place,
-    SequenceHeader, TileInfo, TileLimit, parse_film_grain_data, parse_seq_hdr, parse_tile_info,
-    parse_tile_info_frmhdr, parse_tile_info_frmhdr_parts, parse_tile_info_frmhdr_within,
-    parse_tile_info_within, tile_rectangles, write_tile_info,
+    AdaptiveBoolean, Error, FilmGrainData, FrameHeader, FrameType, GetBits, LAYOUT_BYTES,
+    PixelLayout, Place, SequenceHeader, TileInfo, TileLimit, parse_film_grain_data, parse_seq_hdr,
+    parse_tile_info, parse_tile_info_frmhdr, parse_tile_info_frmhdr_parts,
+    parse_tile_info_frmhdr_within, parse_tile_info_within, tile_rectangles, write_tile_info,
 };
 
 /// A layout read over a fresh record at level 0, tier 0; and whether the reader's error is set.
@@ -689,7 +689,7 @@ fn a_written_layout_reads_back() {
     ] {
         let t = listed(cols, rows);
         let [w, h] = [cols, rows].map(|starts| 64 * i32::from(starts[starts.len() - 1]) - 5);
-        let (count, out) = written(&t, [0, 0], w, h, 177);
+        let (count, out) = written(&t, [0, 0], w, h, LAYOUT_BYTES);
         let mut gb = GetBits::new(&out);
         let mut read = TileInfo::default();
         parse_tile_info(&mut read, &mut gb, 1, 0, 0, w, h, 0, 0).unwrap();
@@ -805,7 +805,7 @@ fn refused_writing_leaves_the_buffer() {
         Err(Error::ShortBuffer)
     );
     let long = listed(&(0..=64).collect::<Vec<_>>(), &[0, 1]);
-    let (count, _) = written(&long, [0, 0], 4096, 64, 177);
+    let (count, _) = written(&long, [0, 0], 4096, 64, LAYOUT_BYTES);
     let needed = count.unwrap().div_ceil(8);
     let refused = (Err(Error::ShortBuffer), vec![0xA5; needed - 1]);
     assert_eq!(written(&long, [0, 0], 4096, 64, needed - 1), refused);

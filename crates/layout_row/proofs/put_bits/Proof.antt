@@ -35,9 +35,10 @@ put-bit-requires c κs =
 loop-again : tie.Need-loop-again Inv-loop μ-loop
 loop-again c =
     let l = c .before .before .before in
-    let s = l .before in
-    (omega (arith, l .loop .inv .0),
-    rw (digits-more (s .args .n) (s .args .v) (l .loop .left) (c .before .before .loop-test .taken) (l .loop .inv .0)) (both (l .loop .inv .1) (c .put-bit .ensures)))
+    let s = l .before in (
+      omega (arith, l .loop .inv .0),
+      rw (digits-more (s .args .n) (s .args .v) (l .loop .left) (c .before .before .loop-test .taken) (l .loop .inv .0)) (both (l .loop .inv .1) (c .put-bit .ensures)),
+    )
 
 returns : tie.Need-returns Inv-loop μ-loop
 returns c =

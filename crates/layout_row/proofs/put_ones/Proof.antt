@@ -46,9 +46,10 @@ unfolding onesCode
 returns c =
     let k = c .before .before .before in
     let a = k .before .before .args in
-    let all = all-ones (k .before) (k .loop-test .left) in
-    (rw (lt-ltb (a .n) (a .most) (c .before .before .if1 .taken)) (both all (c .put-bit2 .ensures)),
-    omega (arith, all .ends, ones-length (a .n), c .put-bit2 .ensures .ends, k .before .before .fits .n))
+    let all = all-ones (k .before) (k .loop-test .left) in (
+      rw (lt-ltb (a .n) (a .most) (c .before .before .if1 .taken)) (both all (c .put-bit2 .ensures)),
+      omega (arith, all .ends, ones-length (a .n), c .put-bit2 .ensures .ends, k .before .before .fits .n),
+    )
 
 returns-2 : tie.Need-returns-2 Inv-loop μ-loop
 unfolding onesCode

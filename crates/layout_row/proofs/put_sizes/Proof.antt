@@ -20,10 +20,11 @@ put-uniform-requires : tie.Need-put-uniform-requires Inv-loop μ-loop
 put-uniform-requires c κs =
     let z = c .before in
     let k = z .before .before in
-    let s = k .before .before .before .before .before in
-    (omega (arith, k .before .loop .inv .far, s .pre .0, k .loop-test .taken),
-    omega (arith, z .size-number .ensures .0, k .before .loop .inv .low, s .pre .1),
-    omega (arith, z .size-number .ensures .1, z .before .size-at .ensures .1))
+    let s = k .before .before .before .before .before in (
+      omega (arith, k .before .loop .inv .far, s .pre .0, k .loop-test .taken),
+      omega (arith, z .size-number .ensures .0, k .before .loop .inv .low, s .pre .1),
+      omega (arith, z .size-number .ensures .1, z .before .size-at .ensures .1),
+    )
 
 loop-again : tie.Need-loop-again Inv-loop μ-loop
 loop-again c =

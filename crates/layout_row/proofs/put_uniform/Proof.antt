@@ -51,9 +51,10 @@ returns-2 c =
     let k = lengths (t .before) in
     let e = t .before .before .before in
     let a = e .before .args in
-    let r = c .put-bits .ensures in
-    (rw (code-short (a .max) (a .v) (e .if1 .left) (rw (k .whole) at (t .if2 .taken))) (rw (k .is) at r),
-    omega (arith, r .ends, length-bits (t .before .before .bit-length .result - 1) (a .v), k .most))
+    let r = c .put-bits .ensures in (
+      rw (code-short (a .max) (a .v) (e .if1 .left) (rw (k .whole) at (t .if2 .taken))) (rw (k .is) at r),
+      omega (arith, r .ends, length-bits (t .before .before .bit-length .result - 1) (a .v), k .most),
+    )
 
 add-put-bits : tie.Need-add-put-bits
 add-put-bits c =
@@ -71,9 +72,10 @@ returns-3 c =
     let k = lengths (t .before) in
     let e = t .before .before .before in
     let a = e .before .args in
-    let r = c .put-bits2 .ensures in
-    (rw (code-later (a .max) (a .v) (e .if1 .left) (rw (k .whole) at (t .if2 .left))) (rw (k .is, k .whole) at r),
-    omega (arith, r .ends, length-bits (t .before .before .bit-length .result) (a .v + (t .before .power .result - a .max)), k .most))
+    let r = c .put-bits2 .ensures in (
+      rw (code-later (a .max) (a .v) (e .if1 .left) (rw (k .whole) at (t .if2 .left))) (rw (k .is, k .whole) at r),
+      omega (arith, r .ends, length-bits (t .before .before .bit-length .result) (a .v + (t .before .power .result - a .max)), k .most),
+    )
 
 pub put-uniform-spec : {M : Type 1} → statement M
 put-uniform-spec =

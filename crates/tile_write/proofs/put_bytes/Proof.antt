@@ -46,7 +46,7 @@ loop-again c =
     let bytes = s .args .bytes .now in (
       omega (arith, k .loop-test .taken),
       ap (λ (x : List ℕ). set x (l .loop .i) (getD bytes (l .loop .i) 0)) (l .loop .inv .1)
-      ∙ one-more (s .args .out .now) bytes (l .loop .i) (omega (arith, k .loop-test .taken, s .pre .0)) (omega (arith, k .loop-test .taken, s .pre .1)),
+          ∙ one-more (s .args .out .now) bytes (l .loop .i) (omega (arith, k .loop-test .taken, s .pre .0)) (omega (arith, k .loop-test .taken, s .pre .1)),
     )
 
 returns : tie.Need-returns Inv-loop μ-loop

@@ -41,11 +41,11 @@ loop-again c =
     let here = sym (z .before .start-at .ensures) ∙ c .if1 .left ∙ z .start-at2 .ensures in (
       omega (arith, k .loop-test .taken),
       λ j h.
-      ⊎-elim (λ g. l .inv .1 j g)
-      (λ g.
-      let e : j ≡ l .i = omega arith in
-      rw e here)
-      (lt-or-le j (l .i)),
+          ⊎-elim (λ g. l .inv .1 j g)
+          (λ g.
+          let e : j ≡ l .i = omega arith in
+          rw e here)
+          (lt-or-le j (l .i)),
     )
 
 returns-2 : tie.Need-returns-2 Inv-loop μ-loop
