@@ -36,7 +36,7 @@ extern "C" {
 
 /* The lengths that buffers must have, in elements. */
 #define MUBANLIG_INFO_BYTES 9       /* info: a layout without its starts */
-#define MUBANLIG_STARTS 65          /* col_start_sb, row_start_sb: 64 starts and the closing one */
+#define MUBANLIG_STARTS 65          /* col_start_sb, row_start_sb: up to 64 starts, the closing one, and zeros */
 #define MUBANLIG_HEADER_NUMBERS 146 /* hdr: a sequence header without its layout */
 #define MUBANLIG_DELTAS 16          /* delta_q */
 #define MUBANLIG_MASKS 3            /* masks */
@@ -294,19 +294,25 @@ uint32_t mubanlig_parse_seg_info(const uint8_t *s, size_t s_len, size_t *positio
     int16_t *delta_q, size_t delta_q_len, uint16_t *masks, size_t masks_len, uint8_t ext);
 /*
  * A tile layout. sb128 and seq_sb128 are the superblock codes of frame and sequence, 0, 1, 2 for 64, 128, 256 samples; sbmul is 2 for
- * the codes 1 and 2, else 1 with equal codes. w and h are 1 to 65536, level 0 to 31, tier 0 or 1. Only the first cols + 1 and rows + 1
- * starts are written: those behind stay what they were. Answers 0, 2, 4 or 5.
+ * the codes 1 and 2, else 1 with equal codes. w and h are 1 to 65536, level 0 to 31, tier 0 or 1. Accepted, all starts are written: the
+ * closing ones are col_start_sb[cols] and row_start_sb[rows], and the entries behind them become 0, whatever they were. Refused, the
+ * buffers stay as they were, old entries included. Answers 0, 2, 4 or 5.
  */
 uint32_t mubanlig_parse_tile_info(const uint8_t *s, size_t s_len, size_t *position, uint8_t *error,
     uint8_t *info, size_t info_len, uint16_t *col_start_sb, size_t col_start_sb_len, uint16_t *row_start_sb, size_t row_start_sb_len,
     int32_t sbmul, uint8_t sb128, uint8_t seq_sb128, int32_t w, int32_t h, uint8_t level, uint8_t tier);
-/* A sequence header; if strict is set, with its trailing one bit. Every number, byte and start is written. Answers 0, 1, 2, 3 or 5. */
+/*
+ * A sequence header; if strict is set, with its trailing one bit. Every number, byte and start is written, and the entries behind the
+ * closing starts become 0. Answers 0, 1, 2, 3 or 5.
+ */
 uint32_t mubanlig_parse_seq_hdr(const uint8_t *s, size_t s_len, size_t *position, uint8_t *error,
     uint8_t strict, int64_t *hdr, size_t hdr_len,
     uint8_t *info, size_t info_len, uint16_t *col_start_sb, size_t col_start_sb_len, uint16_t *row_start_sb, size_t row_start_sb_len);
 /*
  * A frame's superblock code and layout, the sequence's or read. seq_sb128 to present and the three buffers of the sequence's layout are
- * from its header. Answers 0, 2, 4 (also where the sequence's record can't be used for a frame) or 5.
+ * from its header. Accepted, the entries behind the closing starts become 0, read or reused, whatever the sequence's buffers have there.
+ * Refused, sb128 and the frame's buffers stay as they were. Answers 0, 2, 4 (also where the sequence's record can't be used for a frame)
+ * or 5.
  */
 uint32_t mubanlig_parse_tile_info_frmhdr(const uint8_t *s, size_t s_len, size_t *position, uint8_t *error,
     uint8_t frame_type, int32_t width, int32_t height, uint8_t *sb128,
@@ -327,9 +333,9 @@ uint32_t mubanlig_tile_rectangles(const uint8_t *info, size_t info_len,
 
 /*
  * Layouts within a limit, in libcapi_within.a. max_cols and max_rows are the most columns and rows that are taken: any numbers, as the
- * wall's or the panel's above. Each reads as the function without a limit, behind whose parameters they stand. A layout that is accepted
- * there and has more columns or more rows is refused with 6: info, the starts and sb128 stay as they were, and the position and the error
- * are those after the reading. So 2, 4 and 5 come first.
+ * wall's or the panel's above. Each reads as the function without a limit, behind whose parameters they stand, and writes the same, zeros
+ * behind the closing starts included. A layout that is accepted there and has more columns or more rows is refused with 6: info, all starts
+ * and sb128 stay as they were, and the position and the error are those after the reading. So 2, 4 and 5 come first.
  */
 
 /* mubanlig_parse_tile_info within a limit. Answers 0, 2, 4, 5 or 6. */
@@ -361,9 +367,9 @@ uint32_t mubanlig_parse_film_grain_data(const uint8_t *s, size_t s_len, size_t *
  * the last one stay. `bits` becomes how many bits they are. Refused, out stays as it was and `bits` becomes 0. What was read so is written
  * as the bits that were used.
  *
- * The record is its nine bytes and the first cols + 1 and rows + 1 starts, and all of these are asked; starts behind them don't count. Two
- * rows of bits can give the same tiles: for 600 by 128 samples, the codes 1 and 2, sbmul 2, level 0 and tier 0, the bits 1110, 1111 and
- * 00110 all give the columns 0 2 4 5. So the record's logarithms and its flag decide what is written.
+ * The record is its nine bytes, 65 column starts and 65 row starts, and all of these are asked: with an entry behind a closing start that
+ * is not 0, no bits read as it. Two rows of bits can give the same tiles: for 600 by 128 samples, the codes 1 and 2, sbmul 2, level 0 and
+ * tier 0, the bits 1110, 1111 and 00110 all give the columns 0 2 4 5. So the record's logarithms and its flag decide what is written.
  *
  * Short info or starts are 5 before all else; then arguments outside the domain are 4, a record that no bits read as is 8, and out with
  * fewer bytes than the bits need is 5. Answers 0, 4, 5 or 8.

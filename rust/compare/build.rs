@@ -1,11 +1,12 @@
 //! The Rust's own callers of the reader, with their text unchanged but for the import of the reader: ours. And the rules of
-//! a limit, of rectangles and of writing, which may be wrong versions.
+//! old starts, of a limit, of rectangles and of writing, which may be wrong versions.
 
 include!("../oracle/items.rs");
 
 /// The rules, and the variable that names each one's file: the copy that stands beside the Rust's files if there is one,
 /// else ours.
-const RULES: [(&str, &str); 3] = [
+const RULES: [(&str, &str); 4] = [
+    ("cleared.rs", "CLEARED_RULE"),
     ("within.rs", "WITHIN_RULE"),
     ("rectangles.rs", "RECTANGLES_RULE"),
     ("writing.rs", "WRITING_RULE"),

@@ -1,7 +1,7 @@
 -- What a call that reads a header leaves. Assumes nothing.
 use mathlib.Core.Bool.{true}
 use mathlib.Core.List.{List, _++_}
-use mathlib.Core.Path.{_≡_, sym, ap, _∙_}
+use mathlib.Core.Path.{_≡_, sym, ap, subst, _∙_}
 use Prim.Native.Nat.{ℕ, _≤_}
 use native.Mathlib.Omega.{arith}
 use lib.Dec.{leb}
@@ -11,6 +11,7 @@ use Rattle.answers.proofs.Numbers.{accepted-by-0, refused-unless-0}
 use Rattle.answers.specs.Numbers.{numberOf}
 use Rattle.getbits.proofs.Chain.{taken}
 use Rattle.getbits.specs.declared.Place.{Place}
+use Rattle.tile_layout.specs.Cleared.{Cleared}
 use Rattle.seq_hdr.proofs.Refused.{Refused}
 use Rattle.seq_hdr.specs.HeaderLayout.{HeaderLayout}
 use Rattle.seq_hdr.specs.declared.SeqRead.{SeqRead}
@@ -54,7 +55,7 @@ header-read z n out b number r long room e f =
       row-starts = λ h. ap (λ (x : Buffers). x .row-starts) (layout h);
     }
 
--- demand 3 of a header is demand 3 of what is left of it
+-- what is promised of a header is promised of what is left of it
 pub header-left : {s : List ℕ} {p : Place} (z : SeqRead) (n : ℕ) (b : Buffers) → n ≡ numberOf (z .answer) → layoutIn b ≡ z .hdr .tiling .t → HeaderLayout s p z → HeaderLeft s p n b
 header-left z n b number info l =
     record {
@@ -62,4 +63,5 @@ header-left z n b number info l =
       refused-with-2 = λ h r. number ∙ l .refused-with-2 h r;
       refused-only-then = λ h r. l .refused-only-then h (sym number ∙ r);
       layout = λ h r. info ∙ l .layout h (accepted-by-0 (z .answer) (sym number ∙ r));
+      cleared = subst Cleared (sym info) (l .cleared);
     }

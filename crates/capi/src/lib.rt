@@ -5,9 +5,10 @@ ghost use mathlib.Core.Path.{_≡_};
 ghost use Prim.Native.Nat.{_≤_};
 ghost use lib.IntN.{pos};
 ghost use lib.ListN.{replicate, drop};
-ghost use Rattle.flat.specs.Layout.{buffers, hasRoom};
+ghost use Rattle.flat.specs.Layout.{buffers, hasRoom, layoutIn};
 ghost use Rattle.frame_hdr.specs.Frame.{FreshDemand3};
 ghost use Rattle.lent.specs.Lent.{placeOf};
+ghost use Rattle.tile_layout.specs.Cleared.{Cleared};
 ghost use Rattle.tile_layout.specs.Demand3.{Demand3};
 ghost use Rattle.tile_layout.specs.Limits.{argsOf, inDomain, unsigned};
 ghost use Rattle.lent_tiles.specs.Calls.{lentTileInfo, isKnown, frameGiven, seqGiven, lentFrame};
@@ -107,6 +108,7 @@ pub extern "C" fn mubanlig_parse_tile_info(
         ⌜ (hasRoom before ≡ true → inDomain args ≡ true
         → Demand3 (now (s .entry)) (placeOf (now (position .entry)) (now (error .entry))) args
         (tilesLeft r after (placeOf (now (position .exit)) (now (error .exit))))) ⌝ }
+    ensures { λ r. ⌜ (r ≡ 0 → Cleared (layoutIn (buffers (now (info .exit)) (now («col_start_sb» .exit)) (now («row_start_sb» .exit))))) ⌝ }
 {
     if !has_room(&*info, &*col_start_sb, &*row_start_sb) {
         return 5;
@@ -215,6 +217,7 @@ pub extern "C" fn mubanlig_parse_tile_info_frmhdr(
         ⌜ (hasRoom before && hasRoom seq-before ≡ true → isKnown «frame_type» present ≡ true
         → FreshDemand3 (now (s .entry)) (placeOf (now (position .entry)) (now (error .entry))) hdr seq
         (frameLeft hdr r (now (sb128 .exit)) after (placeOf (now (position .exit)) (now (error .exit))))) ⌝ }
+    ensures { λ r. ⌜ (r ≡ 0 → Cleared (layoutIn (buffers (now (info .exit)) (now («col_start_sb» .exit)) (now («row_start_sb» .exit))))) ⌝ }
 {
     if !has_room(&*info, &*col_start_sb, &*row_start_sb) {
         return 5;

@@ -7,6 +7,7 @@ ghost use Rattle.frame_hdr.specs.Frame.{frameTiles, parseTileInfoFrmhdr};
 ghost use Rattle.lent.specs.Lent.{placeOf};
 ghost use Rattle.lent_tiles.specs.Calls.{lentTileInfo, isKnown, frameGiven, seqGiven, lentFrame};
 ghost use Rattle.lent_tiles.specs.Left.{tilesLeft};
+ghost use Rattle.tile_layout.specs.Cleared.{Cleared};
 ghost use Rattle.tile_layout.specs.Demand3.{AcceptedLayout};
 ghost use Rattle.tile_layout.specs.Layout.{parseTileInfo};
 ghost use Rattle.tile_layout.specs.Limits.{argsOf};
@@ -77,6 +78,7 @@ pub extern "C" fn mubanlig_parse_tile_info_within(
         let after = buffers (now (info .exit)) (now («col_start_sb» .exit)) (now («row_start_sb» .exit)) in
         ⌜ (limitGiven «max_cols» «max_rows» ≡ wall → ((r ∷ now (position .exit) ∷ now (error .exit) ∷ []), after)
         ≡ lentTileInfo (now (s .entry)) (now (position .entry)) (now (error .entry)) before (argsOf sbmul sb128 «seq_sb128» w h level tier)) ⌝ }
+    ensures { λ r. ⌜ (r ≡ 0 → Cleared (layoutIn (buffers (now (info .exit)) (now («col_start_sb» .exit)) (now («row_start_sb» .exit))))) ⌝ }
 {
     if !has_room(&*info, &*col_start_sb, &*row_start_sb) {
         return 5;
@@ -170,6 +172,7 @@ pub extern "C" fn mubanlig_parse_tile_info_frmhdr_within(
         let seq = seqGiven «seq_sb128» «max_width» «max_height» level tier present seq-before in
         ⌜ (limitGiven «max_cols» «max_rows» ≡ wall → ((r ∷ now (position .exit) ∷ now (error .exit) ∷ []), now (sb128 .exit), after)
         ≡ lentFrame (now (s .entry)) (now (position .entry)) (now (error .entry)) before seq-before (isKnown «frame_type» present) hdr seq) ⌝ }
+    ensures { λ r. ⌜ (r ≡ 0 → Cleared (layoutIn (buffers (now (info .exit)) (now («col_start_sb» .exit)) (now («row_start_sb» .exit))))) ⌝ }
 {
     if !has_room(&*info, &*col_start_sb, &*row_start_sb) {
         return 5;

@@ -14,8 +14,9 @@ use Rattle.getbits.specs.declared.Place.{Place}
 use Rattle.seq_fields.specs.declared.AdaptiveBoolean.{AdaptiveBoolean}
 use Rattle.seq_fields.specs.declared.AdaptiveBoolean.the-variants.{Off, On, Adaptive}
 use Rattle.tile_layout.specs.Limits.{unsigned, isSize, superblocks, sbw, sbh}
-use Rattle.tile_layout.specs.Layout.{over, tabulate, parseTileInfo}
+use Rattle.tile_layout.specs.Layout.{padded, tabulate, parseTileInfo}
 use Rattle.tile_layout.specs.Demand3.{Demand3}
+use Rattle.tile_layout.specs.Cleared.{ReadOver}
 use Rattle.tile_layout.specs.declared.TileArgs.{TileArgs}
 use Rattle.tile_layout.specs.declared.TileInfo.{TileInfo}
 use Rattle.tile_layout.specs.declared.TileRead.{TileRead}
@@ -131,9 +132,9 @@ askReuse Adaptive s p = getFlag s p
 unfoldable pub readReuse : List ℕ → Place → TileArgs → SeqLayout → Flag
 readReuse s p a q = pick (reuseAllowed a q) (askReuse (q .present) s p) (notReused s p)
 
--- only with multiplier 2 are the starts doubled and the closing entry set to the frame's; entries behind it stay
+-- the starts times the multiplier; only with multiplier 2 is the closing entry set to the frame's
 unfoldable pub reusedStarts : ℕ → List ℕ → ℕ → ℕ → List ℕ
-reusedStarts mul starts tiles closing = pick (eqb mul 2) (over (tabulate (λ i. 2 * getD starts i 0) 0 tiles ++ (closing ∷ [])) starts) starts
+reusedStarts mul starts tiles closing = padded (tabulate (λ i. mul * getD starts i 0) 0 tiles ++ (pick (eqb mul 2) closing (getD starts tiles 0) ∷ []))
 
 -- a reused layout is the sequence's whole record, with these starts
 unfoldable pub reusedInfo : TileArgs → TileInfo → TileInfo
@@ -175,14 +176,19 @@ parseTileInfoFrmhdr s p h q =
     (freshLayout s (f .next) h a))
     (record { answer = WrongArguments; hdr = h; next = settled s p })
 
--- DEMAND 3.
+-- WHAT IS PROMISED.
 -- the layout in a frame's answer
 abbrev pub frameTiles : FrameRead → TileRead
 frameTiles r = record { answer = r .answer; info = r .hdr .tiling; next = r .next }
 
--- it holds of every call that reads a layout, from the place behind the question of reuse, and reuses none
+-- demand 3 holds of every call that reads a layout, from the place behind the question of reuse, and reuses none
 abbrev pub FreshDemand3 : List ℕ → Place → FrameHeader → SeqLayout → FrameRead → Type 0
 FreshDemand3 s p h q r =
     inFrameDomain h q ≡ true
     → readReuse s p (frameArgs h q) q .value ≡ false
     → Demand3 s (readReuse s p (frameArgs h q) q .next) (frameArgs h q) (frameTiles r)
+
+pub record FrameLayout (s : List ℕ) (p : Place) (h : FrameHeader) (q : SeqLayout) (r : FrameRead) : Type 0 where
+  pub fresh : FreshDemand3 s p h q r
+  -- accepted, read fresh or reused, zeros stand behind the closing entries; refused, the layout given comes back: request #107
+  pub over : ReadOver (h .tiling) (frameTiles r)

@@ -2,7 +2,7 @@
 ghost use mathlib.Core.Path.{_≡_};
 ghost use mathlib.Core.Bool.{true};
 ghost use Rattle.tile_layout.specs.Limits.{unsigned, inDomain};
-ghost use Rattle.frame_hdr.specs.Frame.{frameTypeOf, presentOf, isInterOrSwitch, frameCode, frameArgs, withLayout, freshLayout, parseTileInfoFrmhdr, frameTiles, FreshDemand3};
+ghost use Rattle.frame_hdr.specs.Frame.{frameTypeOf, presentOf, isInterOrSwitch, frameCode, frameArgs, withLayout, freshLayout, parseTileInfoFrmhdr, frameTiles, FrameLayout};
 ghost use Rattle.frame_hdr.specs.Sequence.{seqLayout};
 use answers::Answer;
 use answers::is_refusal;
@@ -179,7 +179,7 @@ fn fresh_layout(s: &[u8], p: Place, hdr: FrameHeader, a: TileArgs) -> FrameRead
 // parse_tile_info_frmhdr over the few fields of the sequence header that it needs.
 pub fn frame_layout(s: &[u8], p: Place, hdr: FrameHeader, seq: SeqLayout) -> FrameRead
     ensures { λ r. ⌜ r ≡ parseTileInfoFrmhdr (now (s .entry)) p hdr seq ⌝ }
-    ensures { λ r. ⌜ FreshDemand3 (now (s .entry)) p hdr seq r ⌝ }
+    ensures { λ r. ⌜ FrameLayout (now (s .entry)) p hdr seq r ⌝ }
 {
     if !in_frame_domain(hdr, seq) {
         // No bit is used.
@@ -233,7 +233,7 @@ pub fn parse_tile_info_frmhdr(
     seqhdr: SequenceHeader,
 ) -> FrameRead
     ensures { λ r. ⌜ r ≡ parseTileInfoFrmhdr (now (s .entry)) p hdr (seqLayout seqhdr) ⌝ }
-    ensures { λ r. ⌜ FreshDemand3 (now (s .entry)) p hdr (seqLayout seqhdr) r ⌝ }
+    ensures { λ r. ⌜ FrameLayout (now (s .entry)) p hdr (seqLayout seqhdr) r ⌝ }
 {
     frame_layout(s, p, hdr, seq_layout(seqhdr))
 }

@@ -6,7 +6,7 @@ ghost use lib.ListN.{getD};
 ghost use lib.Dec.{eqb};
 ghost use Rattle.getbits.specs.Chain.{pick};
 ghost use Rattle.tile_layout.specs.Limits.{inDomain};
-ghost use Rattle.tile_layout.specs.Layout.{over, tabulate};
+ghost use Rattle.tile_layout.specs.Layout.{padded, tabulate};
 ghost use Rattle.superblocks.specs.Counts.{multiplierOf};
 ghost use Rattle.frame_hdr.specs.Frame.{startsLow, usableTiles, usable, seqSbw, seqSbh, reuseAllowed, notReused, askReuse, reusedStarts, reusedInfo};
 use super::SeqLayout;
@@ -70,11 +70,13 @@ pub fn read_reuse(s: &[u8], p: Place, reuse_allowed: bool, present: AdaptiveBool
 }
 
 // The starts, from the sequence's superblocks to the frame's.
-fn doubled_starts(starts: SeqStarts, pair: Pair, tiles: u8) -> [u16; 65]
-    requires { ⌜ (tiles ≤ 64) × (startsLow (starts .0) tiles ≡ true) × (multiplierOf (pair .«frame_code») (pair .«seq_code») ≡ 2) ⌝ }
-    ensures { λ r. ⌜ r ≡ over (tabulate (λ i. 2 * getD (starts .0) i 0) 0 tiles) (starts .0) ⌝ }
+fn frame_starts(starts: SeqStarts, pair: Pair, tiles: u8) -> [u16; 65]
+    requires { ⌜ (tiles ≤ 64) × (startsLow (starts .0) tiles ≡ true) ⌝ }
+    ensures { λ r.
+        let multiplier = multiplierOf (pair .«frame_code») (pair .«seq_code») in
+        ⌜ r ≡ padded (tabulate (λ i. multiplier * getD (starts .0) i 0) 0 tiles) ⌝ }
 {
-    let mut at = starts.entries();
+    let mut at = [0u16; 65];
     let mut i: u8 = 0;
     while i < tiles {
         put_start(&mut at, i, starts.start(i).in_frame(pair));
@@ -83,16 +85,26 @@ fn doubled_starts(starts: SeqStarts, pair: Pair, tiles: u8) -> [u16; 65]
     at
 }
 
-// With multiplier 2 the starts become the frame's, and so does the closing entry.
+// The closing entry becomes the frame's only with multiplier 2.
+fn closing_entry(starts: SeqStarts, pair: Pair, tiles: u8, closing: FrameSb) -> FrameSb
+    requires { ⌜ (tiles ≤ 64) × (startsLow (starts .0) tiles ≡ true) ⌝ }
+    ensures { λ r.
+        let multiplier = multiplierOf (pair .«frame_code») (pair .«seq_code») in
+        ⌜ r .0 ≡ pick (eqb multiplier 2) (closing .0) (getD (starts .0) tiles 0) ⌝ }
+{
+    if pair.doubles() {
+        return closing;
+    }
+    starts.start(tiles).in_frame(pair)
+}
+
+// Behind the closing entry stand zeros.
 fn reused_starts(starts: SeqStarts, pair: Pair, tiles: u8, closing: FrameSb) -> [u16; 65]
     requires { ⌜ (tiles ≤ 64) × (startsLow (starts .0) tiles ≡ true) × (closing .0 ≤ 1024) ⌝ }
     ensures { λ r. ⌜ r ≡ reusedStarts (multiplierOf (pair .«frame_code») (pair .«seq_code»)) (starts .0) tiles (closing .0) ⌝ }
 {
-    if !pair.doubles() {
-        return starts.entries();
-    }
-    let mut at = doubled_starts(starts, pair, tiles);
-    put_start(&mut at, tiles, closing);
+    let mut at = frame_starts(starts, pair, tiles);
+    put_start(&mut at, tiles, closing_entry(starts, pair, tiles, closing));
     at
 }
 

@@ -1,9 +1,8 @@
 // What the programs frame, panel and rects share: a sequence header, a frame and tiling bits in bytes, and the text of a frame's layout.
 ghost use mathlib.Core.Path.{_≡_};
 ghost use Prim.Native.Nat.{_≤_};
-ghost use Rattle.program.specs.Output.{startsText};
 ghost use Rattle.text.specs.Text.{Put};
-ghost use Rattle.frame_request.specs.Print.{frameHeadText, logsText, frameLayoutText, frameReadText};
+ghost use Rattle.frame_request.specs.Print.{frameReadText};
 ghost use Rattle.frame_request.specs.Request.{frameOf, givenFrame, isFrameRequest, noFrame, frameRequest};
 use answers::Answer;
 use answers::is_refusal;
@@ -14,16 +13,13 @@ use frame_hdr::FrameType;
 use frame_hdr::frame_type_of;
 use frame_hdr::parse_tile_info_frmhdr;
 use getbits::Place;
-use lent::position_of;
 use program::byte_at;
 use program::is_input;
-use program::put_accepted;
 use program::put_refused;
 use program::two_at;
 use seq_hdr::parse_seq_hdr;
-use text::put_row;
-use tile_layout::TileInfo;
 use tile_layout::no_tile_info;
+use tile_request::put_whole_layout;
 
 // A frame of a type and a size, with the zero layout.
 fn frame_of(frame_type: FrameType, w: usize, h: usize) -> FrameHeader
@@ -98,51 +94,6 @@ pub fn frame_request(s: &[u8]) -> FrameRead
     parse_tile_info_frmhdr(&s[bits..], start, given_frame(s), seqhdr)
 }
 
-fn put_head(out: &mut [u8], t: TileInfo, next: Place, sb128: u8) -> usize
-    ensures { λ r. ⌜ Put 110 (now (out .entry)) 0 (frameHeadText t next sb128) (now (out .exit)) r ⌝ }
-{
-    let xs = [
-        t.cols as u64,
-        t.rows as u64,
-        position_of(next) as u64,
-        next.error as u64,
-        sb128 as u64,
-    ];
-    put_accepted(out, 0, t.uniform, &xs)
-}
-
-// All 65 starts.
-fn put_starts(out: &mut [u8], at: usize, starts: &[u16; 65]) -> usize
-    ensures { λ r. ⌜ Put 1366 (now (out .entry)) at (startsText (now (starts .entry)) 65) (now (out .exit)) r ⌝ }
-{
-    put_row(out, at, starts, 65)
-}
-
-fn put_logs(out: &mut [u8], at: usize, t: TileInfo) -> usize
-    ensures { λ r. ⌜ Put 127 (now (out .entry)) at (logsText t) (now (out .exit)) r ⌝ }
-{
-    let logs = [
-        t.min_log2_cols as u16,
-        t.max_log2_cols as u16,
-        t.log2_cols as u16,
-        t.min_log2_rows as u16,
-        t.max_log2_rows as u16,
-        t.log2_rows as u16,
-    ];
-    put_row(out, at, &logs, 6)
-}
-
-fn put_layout(out: &mut [u8], t: TileInfo, next: Place, sb128: u8) -> usize
-    ensures { λ r. ⌜ Put 2969 (now (out .entry)) 0 (frameLayoutText t next sb128) (now (out .exit)) r ⌝ }
-{
-    let cols = t.col_start_sb;
-    let rows = t.row_start_sb;
-    let head = put_head(out, t, next, sb128);
-    let first = put_starts(out, head, &cols);
-    let second = put_starts(out, first, &rows);
-    put_logs(out, second, t)
-}
-
 pub fn put_frame_read(out: &mut [u8], r: FrameRead) -> usize
     ensures { λ n. ⌜ Put 2969 (now (out .entry)) 0 (frameReadText r) (now (out .exit)) n ⌝ }
 {
@@ -153,5 +104,5 @@ pub fn put_frame_read(out: &mut [u8], r: FrameRead) -> usize
     let hdr = r.hdr;
     let tiling = hdr.tiling;
     let next = r.next;
-    put_layout(out, tiling, next, hdr.sb128)
+    put_whole_layout(out, tiling, next, hdr.sb128)
 }

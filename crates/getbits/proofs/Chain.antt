@@ -26,6 +26,9 @@ pub both : (a b : Bool) → a && b ≡ true → (a ≡ true) × (b ≡ true)
 both true b h = (refl, h)
 both false b h = contrary h refl
 
+pub both-hold : {a b : Bool} → a ≡ true → b ≡ true → a && b ≡ true
+both-hold h k = rw (h, k)
+
 -- what holds of both answers holds of the one picked
 pub picked : {A : Type 0} (P : A → Type 0) (t : Bool) (a b : A) → (t ≡ true → P a) → (t ≡ false → P b) → P (pick t a b)
 picked P true a b f g = f refl

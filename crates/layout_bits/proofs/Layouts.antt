@@ -33,22 +33,22 @@ in-log s p least most = record { low = log-read s p least most .0; high = log-re
 
 -- ---- behind the flag: the logarithms
 
-module _ (s : List ℕ) (p : Place) (old : TileInfo) (a : TileArgs) where
-  logs-known : Readable old a (uniformLayout s p old a .info)
+module _ (s : List ℕ) (p : Place) (a : TileArgs) where
+  logs-known : (old : TileInfo) → Readable old a (uniformLayout s p a .info)
   unfolding uniformLayout then
-  logs-known =
+  logs-known old =
       let c = readLog2 s p (minLog2Cols a) (maxLog2Cols a) in
       even (c .value) (readLog2 s (c .next) (minLog2Tiles a - c .value) (maxLog2Rows a) .value) (in-log s p _ _) (in-log s (c .next) _ _) refl
 
-  logs-used : (let r = uniformLayout s p old a in r .next .error ≡ false → Used s p (r .next) (logsCode (r .info)))
+  logs-used : (let r = uniformLayout s p a in r .next .error ≡ false → Used s p (r .next) (logsCode (r .info)))
   unfolding uniformLayout uniformInfo logsCode then
   logs-used e =
       let c = readLog2 s p (minLog2Cols a) (maxLog2Cols a) in
       let r = code-log (minLog2Tiles a - c .value) (maxLog2Rows a) .used s (c .next) e in
       on _ _ (code-log (minLog2Cols a) (maxLog2Cols a) .used s p (sym (r .error) ∙ e)) r
 
-  logs-read : (c r : ℕ) → InLog (minLog2Cols a) (maxLog2Cols a) c → InLog (minLog2Tiles a - c) (maxLog2Rows a) r → StandsAt s (position s p) (logsCode (uniformInfo a old c r))
-      → ReadAs s p (uniformInfo a old c r) (logsCode (uniformInfo a old c r)) (uniformLayout s p old a)
+  logs-read : (c r : ℕ) → InLog (minLog2Cols a) (maxLog2Cols a) c → InLog (minLog2Tiles a - c) (maxLog2Rows a) r → StandsAt s (position s p) (logsCode (uniformInfo a c r))
+      → ReadAs s p (uniformInfo a c r) (logsCode (uniformInfo a c r)) (uniformLayout s p a)
   unfolding uniformLayout uniformInfo logsCode then
   logs-read c r g h st =
       let x = logCode (minLog2Cols a) (maxLog2Cols a) c in
@@ -68,14 +68,14 @@ module _ (old : TileInfo) (a : TileArgs) (w h : List ℕ) where
   col-sizes e =
       tabulated _ 0 w (λ k l.
       let q : 0 + k ≡ k = omega arith in
-      rw q (omega (arith, gap w (sbw a) e (old .«col_start_sb») k l)))
+      rw q (omega (arith, gap w (sbw a) e k l)))
 
   row-sizes : sum h ≡ sbh a → rowSizes (nonUniformInfo a old w h) ≡ h
   unfolding nonUniformInfo
   row-sizes e =
       tabulated _ 0 h (λ k l.
       let q : 0 + k ≡ k = omega arith in
-      rw q (omega (arith, gap h (sbh a) e (old .«row_start_sb») k l)))
+      rw q (omega (arith, gap h (sbh a) e k l)))
 
   -- the bits of the record are the bits of the sizes
   pub sides-are : sum w ≡ sbw a → sum h ≡ sbh a → layoutBits a (nonUniformInfo a old w h) ≡ 0 ∷ sidesCode a w h
@@ -120,9 +120,9 @@ module _ (s : List ℕ) (p : Place) (old : TileInfo) (a : TileArgs) (d : InDomai
 
 -- ---- with the flag
 
-pub logs-are : (a : TileArgs) (old : TileInfo) (c r : ℕ) → layoutBits a (uniformInfo a old c r) ≡ 1 ∷ logsCode (uniformInfo a old c r)
+pub logs-are : (a : TileArgs) (c r : ℕ) → layoutBits a (uniformInfo a c r) ≡ 1 ∷ logsCode (uniformInfo a c r)
 unfolding layoutBits uniformInfo
-logs-are a old c r = refl
+logs-are a c r = refl
 
 module _ (s : List ℕ) (p : Place) (old : TileInfo) (a : TileArgs) where
   abbrev flag : Number
@@ -134,9 +134,9 @@ module _ (s : List ℕ) (p : Place) (old : TileInfo) (a : TileArgs) where
   abbrev Fine : TileRead → Type 0
   Fine r = Clean r → Readable old a (r .info) × Used s p (r .next) (layoutBits a (r .info))
 
-  logs-fine : flag .value ≡ 1 → Fine (uniformLayout s (flag .next) old a)
+  logs-fine : flag .value ≡ 1 → Fine (uniformLayout s (flag .next) a)
   unfolding layoutBits uniformLayout uniformInfo then
-  logs-fine e c = (logs-known s (flag .next) old a, flagged _ e (c .unset) (logs-used s (flag .next) old a (c .unset)))
+  logs-fine e c = (logs-known s (flag .next) a old, flagged _ e (c .unset) (logs-used s (flag .next) a (c .unset)))
 
   module _ (d : InDomain a) where
     sides-fine : flag .value ≡ 0 → Fine (nonUniformLayout s (flag .next) old a)
@@ -157,7 +157,7 @@ module _ (s : List ℕ) (p : Place) (old : TileInfo) (a : TileArgs) where
           rw (sides-are old a (c .sizes) (r .sizes) (w .adds) (h .adds)) (flagged _ e (ok .unset) (sides-used s n old a d (ok .unset))),
         )))
 
-    parse-fine : Fine (pick (eqb (flag .value) 1) (uniformLayout s (flag .next) old a) (nonUniformLayout s (flag .next) old a))
+    parse-fine : Fine (pick (eqb (flag .value) 1) (uniformLayout s (flag .next) a) (nonUniformLayout s (flag .next) old a))
     parse-fine =
         picked Fine (eqb (flag .value) 1) _ _ (λ e. logs-fine (eqb-true _ _ e)) (λ e. sides-fine (omega (arith, bit-lt s p, eqb-false (flag .value) 1 e)))
 
@@ -172,11 +172,11 @@ module _ (s : List ℕ) (p : Place) (old : TileInfo) (a : TileArgs) where
           record { accepted = r .accepted; gives = r .gives; just = on (b ∷ []) rest (flag-read .1) (r .just) }
 
     parse-read : (t : TileInfo) → Readable old a t → StandsAt s (position s p) (layoutBits a t)
-        → ReadAs s p t (layoutBits a t) (pick (eqb (flag .value) 1) (uniformLayout s (flag .next) old a) (nonUniformLayout s (flag .next) old a))
+        → ReadAs s p t (layoutBits a t) (pick (eqb (flag .value) 1) (uniformLayout s (flag .next) a) (nonUniformLayout s (flag .next) old a))
     parse-read t (even c r g h q) st =
-        let l = ap (layoutBits a) q ∙ logs-are a old c r in
+        let l = ap (layoutBits a) q ∙ logs-are a c r in
         let f = flag-read 1 _ (omega arith) (rw l at st) .0 in
-        rw (l, q, eq-eqb (flag .value) 1 f) (after 1 _ (omega arith) (rw l at st) (logs-read s (flag .next) old a c r g h))
+        rw (l, q, eq-eqb (flag .value) 1 f) (after 1 _ (omega arith) (rw l at st) (logs-read s (flag .next) a c r g h))
     parse-read t (sized w h f g q) st =
         let l = ap (layoutBits a) q ∙ sides-are old a w h (f .adds) (g .adds) in
         let b = flag-read 0 _ (omega arith) (rw l at st) .0 in

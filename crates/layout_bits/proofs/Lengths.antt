@@ -57,7 +57,7 @@ unfolding logsCode sidesCode uniformInfo
 layout-length old a t d (even c r g h q) =
     let x = logCode (minLog2Cols a) (maxLog2Cols a) c in
     let y = logCode (minLog2Tiles a - c) (maxLog2Rows a) r in
-    rw (q, logs-are a old c r) (omega (arith, length-append x y, ones-length (maxLog2Cols a - minLog2Cols a) (c - minLog2Cols a), ones-length (maxLog2Rows a - (minLog2Tiles a - c)) (r - (minLog2Tiles a - c)), max-cols a d, max-rows a d, g .high, h .high))
+    rw (q, logs-are a c r) (omega (arith, length-append x y, ones-length (maxLog2Cols a - minLog2Cols a) (c - minLog2Cols a), ones-length (maxLog2Rows a - (minLog2Tiles a - c)) (r - (minLog2Tiles a - c)), max-cols a d, max-rows a d, g .high, h .high))
 layout-length old a t d (sized w h f g q) =
     let x = sizesCode (sbw a) (widthLimit a) w in
     let y = sizesCode (sbh a) (rowLimit a (widest w)) h in

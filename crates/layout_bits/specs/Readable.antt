@@ -21,5 +21,5 @@ pub record Fills (most whole limit : ℕ) (sizes : List ℕ) : Type 0 where
 
 -- over a record `old`: a uniform layout by two logarithms, a non-uniform one by its widths and heights
 pub data Readable (old : TileInfo) (a : TileArgs) (t : TileInfo) : Type 0 where
-  even : (c r : ℕ) → InLog (minLog2Cols a) (maxLog2Cols a) c → InLog (minLog2Tiles a - c) (maxLog2Rows a) r → t ≡ uniformInfo a old c r → Readable old a t
+  even : (c r : ℕ) → InLog (minLog2Cols a) (maxLog2Cols a) c → InLog (minLog2Tiles a - c) (maxLog2Rows a) r → t ≡ uniformInfo a c r → Readable old a t
   sized : (w h : List ℕ) → Fills 64 (sbw a) (widthLimit a) w → Fills 64 (sbh a) (rowLimit a (widest w)) h → t ≡ nonUniformInfo a old w h → Readable old a t

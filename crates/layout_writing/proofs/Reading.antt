@@ -1,23 +1,20 @@
 -- Some bits read as a record exactly when its own do. Assumes nothing.
 use mathlib.Core.Bool.{true, false}
 use mathlib.Core.List.{List}
-use mathlib.Core.Path.{_≡_, refl, sym, ap, _∙_}
-use Prim.Native.Nat.{ℕ, zero, suc, _+_, _-_, _*_, _≤_, _<_}
+use mathlib.Core.Path.{_≡_, refl, _∙_}
+use Prim.Native.Nat.{ℕ, _*_, _≤_}
 use native.Mathlib.Omega.{arith}
-use lib.ListN.{length, getD, take}
-use lib.Seq.{getD-take}
+use lib.ListN.{length}
 use Rattle.getbits.specs.Bits.{position, placeAt}
 use Rattle.getbits.specs.declared.Place.{Place}
 use Rattle.getbits.proofs.Places.{pos-at}
 use Rattle.tile_layout.specs.declared.TileArgs.{TileArgs}
 use Rattle.tile_layout.specs.declared.TileInfo.{TileInfo}
 use Rattle.tile_layout.specs.Limits.{inDomain, noTileInfo}
-use Rattle.tile_layout.specs.Layout.{tabulate}
-use Rattle.tile_layout.specs.Demand3.{colSize, rowSize}
 use Rattle.tile_layout.proofs.Domain.{domain}
 use Rattle.tile_layout.proofs.Demand3.{accepted-in, all-accepted}
 use Rattle.layout_bits.specs.Rows.{StandsAt, Used, usedBits, byteCount, bytesOf, packed}
-use Rattle.layout_bits.specs.Bits.{logsCode, colSizes, rowSizes, layoutBits}
+use Rattle.layout_bits.specs.Bits.{layoutBits}
 use Rattle.layout_bits.specs.Readable.{Readable}
 use Rattle.layout_bits.specs.LayoutCode.{Clean}
 use Rattle.layout_bits.proofs.Rows.{between}
@@ -25,69 +22,42 @@ use Rattle.layout_bits.proofs.Layouts.{layout-code}
 use Rattle.layout_bits.proofs.Lengths.{layout-length}
 use Rattle.layout_bits.proofs.Packed.{bytes-stand, small-layout}
 use Rattle.layout_writing.specs.Write.{fresh, again, readsAs}
-use Rattle.layout_writing.specs.Promises.{trimmed, SomeBits}
+use Rattle.layout_writing.specs.Promises.{SomeBits}
 use Rattle.layout_writing.proofs.Same.{reads-only, reads-same}
-
--- ---- records that are alike up to the closing entries have the same bits
-
--- sizes up to n need the starts up to n
-tabulate-same : (f g : ℕ → ℕ) (i n : ℕ) → ((k : ℕ) → k < i + n → f k ≡ g k) → tabulate f i n ≡ tabulate g i n
-unfolding tabulate
-tabulate-same f g i zero h = refl
-tabulate-same f g i (suc n) h = rw (h i (omega arith), tabulate-same f g (suc i) n (λ k l. h k (omega arith)))
-
-gaps : (l : List ℕ) (n k : ℕ) → k < 0 + n → getD (take (n + 1) l) (k + 1) 0 - getD (take (n + 1) l) k 0 ≡ getD l (k + 1) 0 - getD l k 0
-gaps l n k h = rw (getD-take (n + 1) l (k + 1) 0 (omega arith), getD-take (n + 1) l k 0 (omega arith))
-
-trimmed-bits : (a : TileArgs) (t : TileInfo) → layoutBits a (trimmed t) ≡ layoutBits a t
-unfolding layoutBits logsCode
-trimmed-bits a t =
-    let c : colSizes (trimmed t) ≡ colSizes t = tabulate-same (colSize (trimmed t)) (colSize t) 0 (t .cols) (gaps (t .«col_start_sb») (t .cols)) in
-    let r : rowSizes (trimmed t) ≡ rowSizes t = tabulate-same (rowSize (trimmed t)) (rowSize t) 0 (t .rows) (gaps (t .«row_start_sb») (t .rows)) in
-    rw (c, r)
-
-alike-bits : (a : TileArgs) (t u : TileInfo) → trimmed t ≡ trimmed u → layoutBits a t ≡ layoutBits a u
-alike-bits a t u e = sym (trimmed-bits a t) ∙ ap (layoutBits a) e ∙ trimmed-bits a u
 
 -- ---- a record that some bits read as
 
 -- from p its bits are read as t, and just they are used
 pub record Back (s : List ℕ) (p : Place) (a : TileArgs) (t : TileInfo) : Type 0 where
   pub accepted : p .error ≡ false → Clean (fresh s p a)
-  pub gives : trimmed (fresh s p a .info) ≡ trimmed t
+  pub gives : fresh s p a .info ≡ t
   pub just : Used s p (fresh s p a .next) (layoutBits a t)
 
 module _ (a : TileArgs) (t : TileInfo) (b : SomeBits a t) where
-  abbrev read : TileInfo
-  read = fresh (b .bytes) (b .place) a .info
-
   pub domained : inDomain a ≡ true
   domained = accepted-in (b .bytes) (b .place) noTileInfo a (b .clean .accepted)
 
-  used : Readable noTileInfo a read × Used (b .bytes) (b .place) (fresh (b .bytes) (b .place) a .next) (layoutBits a read)
-  used = layout-code .used (b .bytes) (b .place) noTileInfo a (b .clean)
+  used : Readable noTileInfo a t × Used (b .bytes) (b .place) (fresh (b .bytes) (b .place) a .next) (layoutBits a t)
+  used = rw (b .gives) at (layout-code .used (b .bytes) (b .place) noTileInfo a (b .clean))
 
-  bits-are : layoutBits a read ≡ layoutBits a t
-  bits-are = alike-bits a read t (b .gives)
-
-  -- they are the bits that were used
+  -- its bits are those that were used
   pub row-is : usedBits (b .bytes) (b .place) (fresh (b .bytes) (b .place) a .next) ≡ layoutBits a t
-  row-is = between (used .1) ∙ bits-are
+  row-is = between (used .1)
 
   -- where they stand, t is read
   pub back : (s : List ℕ) (p : Place) → StandsAt s (position s p) (layoutBits a t) → Back s p a t
   back s p st =
-      let r = layout-code .reads s p noTileInfo a read domained (used .0) (rw bits-are st) in
-      record { accepted = λ e. record { accepted = r .accepted; unset = r .just .error ∙ e }; gives = ap trimmed (r .gives) ∙ b .gives; just = rw bits-are at (r .just) }
+      let r = layout-code .reads s p noTileInfo a t domained (used .0) st in
+      record { accepted = λ e. record { accepted = r .accepted; unset = r .just .error ∙ e }; gives = r .gives; just = r .just }
 
   -- at most 64 columns and rows, and 1,409 bits
   pub few : (t .cols ≤ 64) × (t .rows ≤ 64)
   few =
       let x = all-accepted (b .bytes) (b .place) noTileInfo a (b .clean .accepted) in
-      rw (← ap (λ (u : TileInfo). u .cols) (b .gives), ← ap (λ (u : TileInfo). u .rows) (b .gives)) (x .most-cols, x .most-rows)
+      rw (← b .gives) (x .most-cols, x .most-rows)
 
   pub short : length (layoutBits a t) ≤ 1409
-  short = rw (ap length bits-are) at (layout-length noTileInfo a read (domain a domained) (used .0))
+  short = layout-length noTileInfo a t (domain a domained) (used .0)
 
 -- ---- read from bytes that begin with its bits
 

@@ -21,8 +21,8 @@ use Rattle.layout_bits.specs.Bits.{layoutBits}
 use Rattle.layout_bits.proofs.Layouts.{layout-code}
 use Rattle.layout_bits.proofs.Packed.{bytes-length, bytes-lt, small-layout}
 use Rattle.layout_writing.specs.declared.Written.{Written}
-use Rattle.layout_writing.specs.Write.{again, readsAs, refusal, written, writeTileInfo}
-use Rattle.layout_writing.specs.Promises.{trimmed, SomeBits, Bytes, ReadsAs, Writing}
+use Rattle.layout_writing.specs.Write.{fresh, again, readsAs, refusal, written, writeTileInfo}
+use Rattle.layout_writing.specs.Promises.{SomeBits, Bytes, ReadsAs, Writing}
 use Rattle.layout_writing.proofs.Same.{not-so}
 use Rattle.layout_writing.proofs.Reading.{domained, row-is, back, short, start, from-start, stands, some-bits, own}
 
@@ -131,8 +131,9 @@ writing =
                 let z : 0 + k ≡ k = omega arith in
                 rw z (g .same k (omega arith) (omega arith)) ∙ (rw z at (st .same k h));
           }));
-      read-write = λ s p a t out c e.
-          let b : SomeBits a t = record { bytes = s; place = p; clean = c; gives = e } in
+      read-write = λ s p a out c.
+          let t = fresh s p a .info in
+          let b : SomeBits a t = record { bytes = s; place = p; clean = c; gives = refl } in
           let q = row-is a t b in
           λ room. rw q (asked a t out b ∙ taken _ _ _ (le-leb (byteCount (layoutBits a t)) (length out) (rw q at room)));
       refused-with-8 = λ a t out. none a t out;
@@ -142,6 +143,6 @@ writing =
       readable = λ a t d k.
           let st = from-start _ _ (stands a t (byteCount (layoutBits a t)) (omega arith)) in
           let r = layout-code .reads (packed (layoutBits a t)) start noTileInfo a t d k st in
-          record { bytes = packed (layoutBits a t); place = start; clean = record { accepted = r .accepted; unset = r .just .error }; gives = ap trimmed (r .gives) };
+          record { bytes = packed (layoutBits a t); place = start; clean = record { accepted = r .accepted; unset = r .just .error }; gives = r .gives };
       enough = λ a t out room. roomy a t out room;
     }

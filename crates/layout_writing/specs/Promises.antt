@@ -3,7 +3,7 @@ use mathlib.Core.Path.{_≡_}
 use mathlib.Core.Bool.{true, false}
 use mathlib.Core.List.{List}
 use Prim.Native.Nat.{ℕ, _+_, _/_, _≤_, _<_}
-use lib.ListN.{length, getD, take, drop}
+use lib.ListN.{length, getD, drop}
 use Rattle.answers.specs.Numbers.{numberOf, isRefusal}
 use Rattle.getbits.specs.Bits.{position, placeAt}
 use Rattle.getbits.specs.declared.Place.{Place}
@@ -16,29 +16,12 @@ use Rattle.layout_bits.specs.Readable.{Readable}
 use Rattle.layout_bits.specs.LayoutCode.{Clean}
 use Rattle.layout_writing.specs.Write.{fresh, written, writeTileInfo}
 
--- the record up to and with the closing entries
-abbrev pub trimmed : TileInfo → TileInfo
-trimmed t =
-    record {
-      uniform = t .uniform;
-      «min_log2_cols» = t .«min_log2_cols»;
-      «max_log2_cols» = t .«max_log2_cols»;
-      «log2_cols» = t .«log2_cols»;
-      cols = t .cols;
-      «min_log2_rows» = t .«min_log2_rows»;
-      «max_log2_rows» = t .«max_log2_rows»;
-      «log2_rows» = t .«log2_rows»;
-      rows = t .rows;
-      «col_start_sb» = take (t .cols + 1) (t .«col_start_sb»);
-      «row_start_sb» = take (t .rows + 1) (t .«row_start_sb»);
-    }
-
--- some bits read as t: from a place in a byte string a reading is accepted without error and gives t, up to and with the closing entries
+-- some bits read as t: from a place in a byte string a reading is accepted without error and gives t
 pub record SomeBits (a : TileArgs) (t : TileInfo) : Type 0 where
   pub bytes : List ℕ
   pub place : Place
   pub clean : Clean (fresh bytes place a)
-  pub gives : trimmed (fresh bytes place a .info) ≡ trimmed t
+  pub gives : fresh bytes place a .info ≡ t
 
 -- s is a byte string: each number of it is below 256
 abbrev pub Bytes : List ℕ → Type 0
@@ -47,7 +30,7 @@ Bytes s = (k : ℕ) → getD s k 0 < 256
 -- from its first bit on, s reads as t, and n bits are used
 pub record ReadsAs (s : List ℕ) (n : ℕ) (a : TileArgs) (t : TileInfo) : Type 0 where
   pub clean : Clean (fresh s (placeAt 0 false) a)
-  pub gives : trimmed (fresh s (placeAt 0 false) a .info) ≡ trimmed t
+  pub gives : fresh s (placeAt 0 false) a .info ≡ t
   pub uses : position s (fresh s (placeAt 0 false) a .next) ≡ n
 
 pub record Writing : Type 0 where
@@ -58,8 +41,8 @@ pub record Writing : Type 0 where
   pub in-front : (a : TileArgs) (t : TileInfo) (out s : List ℕ)
       → (let w = writeTileInfo a t out in isRefusal (w .0 .answer) ≡ false → Agree (w .1) s 0 (w .0 .bits) → ReadsAs s (w .0 .bits) a t)
   -- READ, THEN WRITE: what a reading from any place gave, accepted without error, is written as the bits that it used, where there is room
-  pub read-write : (s : List ℕ) (p : Place) (a : TileArgs) (t : TileInfo) (out : List ℕ) → Clean (fresh s p a) → trimmed (fresh s p a .info) ≡ trimmed t
-      → (let bits = usedBits s p (fresh s p a .next) in byteCount bits ≤ length out → writeTileInfo a t out ≡ written bits out)
+  pub read-write : (s : List ℕ) (p : Place) (a : TileArgs) (out : List ℕ) → Clean (fresh s p a)
+      → (let bits = usedBits s p (fresh s p a .next) in byteCount bits ≤ length out → writeTileInfo a (fresh s p a .info) out ≡ written bits out)
   -- 8 exactly when no bits of any byte string read as the record
   pub refused-with-8 : (a : TileArgs) (t : TileInfo) (out : List ℕ) → inDomain a ≡ true → ((b : SomeBits a t) → Bytes (b .bytes) → ⊥)
       → numberOf (writeTileInfo a t out .0 .answer) ≡ 8

@@ -1,9 +1,9 @@
 -- A layout written as bits: request #106. Reading here is parse_tile_info over the zero record.
 use mathlib.Core.Bool.{Bool, true, false, not, _&&_}
 use mathlib.Core.List.{List, [], _∷_, _++_}
-use Prim.Native.Nat.{ℕ, _+_}
+use Prim.Native.Nat.{ℕ}
 use lib.Dec.{leb, eqb}
-use lib.ListN.{length, take, drop}
+use lib.ListN.{length, drop}
 use Rattle.answers.specs.Numbers.{isRefusal}
 use Rattle.answers.specs.declared.Answer.{Answer}
 use Rattle.answers.specs.declared.Answer.the-variants.{Accepted, WrongArguments, ShortBuffer, NoSuchLayout}
@@ -46,13 +46,13 @@ sameNumbers t u =
     && eqb (t .«log2_rows») (u .«log2_rows»)
     && eqb (t .rows) (u .rows)
 
--- are all nine numbers, and the starts up to and with the closing ones?
+-- are two layouts: all nine numbers, and all starts?
 unfoldable pub sameLayout : TileInfo → TileInfo → Bool
 sameLayout t u =
     sameFlag (t .uniform) (u .uniform)
     && sameNumbers t u
-    && sameList (take (t .cols + 1) (t .«col_start_sb»)) (take (t .cols + 1) (u .«col_start_sb»))
-    && sameList (take (t .rows + 1) (t .«row_start_sb»)) (take (t .rows + 1) (u .«row_start_sb»))
+    && sameList (t .«col_start_sb») (u .«col_start_sb»)
+    && sameList (t .«row_start_sb») (u .«row_start_sb»)
 
 -- is a reading accepted without error, and does it give t?
 unfoldable pub readsAs : TileRead → TileInfo → Bool

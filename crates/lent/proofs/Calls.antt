@@ -26,6 +26,3 @@ first-fails a b h = rw h
 pub second-fails : (a b : Bool) → b ≡ false → a && b ≡ false
 second-fails true b h = h
 second-fails false b h = refl
-
-pub both-hold : (a b : Bool) → a ≡ true → b ≡ true → a && b ≡ true
-both-hold a b h k = rw (h, k)

@@ -4,13 +4,14 @@ use mathlib.Core.List.{List, [], _∷_}
 use mathlib.Core.Path.{_≡_, refl, sym, ap, subst, _∙_}
 use Prim.Native.Nat.{ℕ}
 use lib.ListN.{getD}
-use Rattle.answers.proofs.Numbers.{refused-unless-0}
+use Rattle.answers.proofs.Numbers.{accepted-by-0, refused-unless-0}
 use Rattle.answers.specs.Numbers.{numberOf, isRefusal}
 use Rattle.answers.specs.declared.Answer.{Answer}
 use Rattle.answers.specs.declared.Answer.the-variants.{Accepted, InvalidSequenceHeader, InvalidTileInfo, InvalidTrailingBits}
 use Rattle.answers.specs.declared.Answer.the-variants.{WrongArguments, ShortBuffer, TooManyTiles, InvalidFilmGrainData, NoSuchLayout}
 use Rattle.getbits.proofs.Chain.{taken, left}
 use Rattle.getbits.specs.declared.Place.{Place}
+use Rattle.tile_layout.specs.Cleared.{Cleared, ReadOver}
 use Rattle.tile_layout.specs.Demand3.{Demand3, AcceptedLayout}
 use Rattle.tile_layout.specs.declared.TileArgs.{TileArgs}
 use Rattle.tile_layout.specs.declared.TileInfo.{TileInfo}
@@ -72,6 +73,12 @@ module _ (z : TileRead) (n : ℕ) (b : Buffers) (number : n ≡ numberOf (z .ans
 
   pub left-accepted : isRefusal (answerOf n) ≡ false → isRefusal (z .answer) ≡ false
   left-accepted r = sym (ap isRefusal left-answer) ∙ r
+
+  -- an accepted layout is left with zeros behind its closing entries
+  pub cleared-left : {old : TileInfo} → ReadOver old z → n ≡ 0 → Cleared (layoutIn b)
+  cleared-left o e =
+      let h = accepted-by-0 (z .answer) (sym number ∙ e) in
+      subst Cleared (sym (info h)) (o .cleared h)
 
   -- demand 3 of a layout is demand 3 of what is left of it
   pub demand3-left : {s : List ℕ} {p p' : Place} {a : TileArgs} → Demand3 s p a z → Demand3 s p a (tilesLeft n b p')

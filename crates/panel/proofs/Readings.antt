@@ -12,7 +12,7 @@ use Rattle.superblocks.specs.Counts.{multiplierOf}
 use Rattle.text.specs.Text.{word, decimal, decimalIn, nexts, row}
 use Rattle.program.specs.Output.{acceptedText, refusedText, chosenText, eitherText}
 use Rattle.tile_limit.specs.Within.{tilesWithin}
-use Rattle.tile_request.specs.Request.{tileRequest}
+use Rattle.tile_request.specs.Request.{requestOver, tileRequest}
 use Rattle.tile_request.specs.Print.{tileHeadText, tileLayoutText, tileReadText}
 use Rattle.panel.specs.Print.{panelText}
 
@@ -28,7 +28,7 @@ unfolding leadingZeros then turns bitsAt position readBits getBit getBits getFla
     inDomain superblocks widthLimit areaLimit doublings minLog2Cols maxLog2Cols maxLog2Rows minLog2Tiles
     tabulate fullCount base count larger startAt readLog2 uniformInfo uniformLayout readSizes sum widest startsFrom
     rowArea rowLimit readCols readRows nonUniformInfo nonUniformLayout parseTileInfo multiplierOf tilesWithin
-    word decimal decimalIn nexts row tileRequest tileHeadText tileLayoutText acceptedText refusedText tileReadText
+    word decimal decimalIn nexts row requestOver tileRequest tileHeadText tileLayoutText acceptedText refusedText tileReadText
     chosenText eitherText panelText
 sizes = (refl, refl, refl, refl, refl)
 

@@ -5,7 +5,7 @@ ghost use Rattle.getbits.specs.Bits.{getBit, getBits, bytePos, byteAlign};
 ghost use Rattle.codes.specs.Codes.{getVlc, getUniform};
 ghost use Rattle.seq_hdr.specs.Header.{parseSeqHdr};
 ghost use Rattle.seq_hdr.specs.HeaderLayout.{HeaderLayout};
-ghost use Rattle.frame_hdr.specs.Frame.{parseTileInfoFrmhdr, FreshDemand3};
+ghost use Rattle.frame_hdr.specs.Frame.{parseTileInfoFrmhdr, FrameLayout};
 ghost use Rattle.frame_hdr.specs.Sequence.{seqLayout};
 ghost use Rattle.tile_limit.specs.Promises.{LimitedFrame};
 ghost use Rattle.tile_limit.specs.Within.{parseTileInfoFrmhdrWithin};
@@ -161,7 +161,7 @@ impl<'a> GetBits<'a> {
         seqhdr: SequenceHeader,
     ) -> FrameHdrRead<'a>
         ensures { λ r. ⌜ r ≡ frameHdrOf (self .entry .«data») (parseTileInfoFrmhdr (now (self .entry .«data»)) (self .entry .at) hdr (seqLayout seqhdr)) ⌝ }
-        ensures { λ r. ⌜ FreshDemand3 (now (self .entry .«data»)) (self .entry .at) hdr (seqLayout seqhdr) (frameReadOf r) ⌝ }
+        ensures { λ r. ⌜ FrameLayout (now (self .entry .«data»)) (self .entry .at) hdr (seqLayout seqhdr) (frameReadOf r) ⌝ }
     {
         after_frame_hdr(
             self.data,

@@ -44,7 +44,7 @@ unfolding Every answerTo table leadingZeros then turns bitsAt position readBits 
     multiplierOf fitsUniform startsLow usableTiles usable inFrameDomain frameCode reuseAllowed askReuse readReuse reusedStarts reusedInfo parseTileInfoFrmhdr
     rising hasRectangles each rectangles tileRectangles
     bytesOf bitsOf uniformCode onesCode logsCode sizesCode sidesCode layoutBits sameList sameNumbers sameLayout readsAs writeTileInfo
-computed = (refl, (refl, (refl, (refl, (refl, (refl, (refl, (refl, (refl, (refl, (refl, (refl, (refl, (refl, (refl, (refl, (refl, (refl, (refl, (refl, (refl, (refl, (refl, tt)))))))))))))))))))))))
+computed = (refl, (refl, (refl, (refl, (refl, (refl, (refl, (refl, (refl, (refl, (refl, (refl, (refl, (refl, (refl, (refl, (refl, (refl, (refl, (refl, (refl, (refl, (refl, (refl, (refl, (refl, (refl, tt)))))))))))))))))))))))))))
 
 -- a row that is in the list is one of them
 among : (l : List Row) → Every l → (r : Row) → List·Memᴰ r l → Holds r

@@ -3,7 +3,7 @@
 use mathlib.Core.Path.{_≡_}
 use mathlib.Core.Bool.{Bool, true, false}
 use mathlib.Core.List.{List, [], _∷_, _++_, List·Memᴰ}
-use Prim.Native.Nat.{ℕ, _+_}
+use Prim.Native.Nat.{ℕ, _+_, _-_}
 use lib.IntN.{ℤ, pos}
 use lib.ListN.{take, replicate}
 use Rattle.answers.specs.Numbers.{numberOf, isRefusal}
@@ -22,19 +22,23 @@ use Rattle.seq_hdr.specs.declared.SeqRead.{SeqRead}
 use Rattle.seq_hdr.specs.Header.{parseSeqHdr}
 use Rattle.frame_hdr.specs.Frame.{parseTileInfoFrmhdr}
 use Rattle.frame_hdr.specs.declared.FrameRead.{FrameRead}
-use Rattle.frame_hdr.specs.declared.FrameType.the-variants.{Inter}
+use Rattle.frame_hdr.specs.declared.FrameType.{FrameType}
+use Rattle.frame_hdr.specs.declared.FrameType.the-variants.{Key, Inter}
 use Rattle.frame_hdr.specs.declared.SeqLayout.{SeqLayout}
 use Rattle.rectangles.specs.Rectangles.{rectangleNumbers, tileRectangles}
 use Rattle.layout_writing.specs.Write.{writeTileInfo}
 
 -- what is read: bytes as a layout for these arguments, or bytes as a sequence header; the rectangles of such a layout, in its own frame or in another that
--- reuses it; or such a layout written again
+-- reuses it; such a layout written again; or the starts of such a layout, read over a record whose starts are all `old`, or reused from a sequence's record in
+-- which `old` stands behind the closing ones
 pub data Question : Type 0 where
   layout : TileArgs → List ℕ → Question
   header : (strict : Bool) → List ℕ → Question
   rectanglesOf : TileArgs → List ℕ → Question
   rectanglesReused : (width height : ℕ) → TileArgs → List ℕ → Question
   written : TileArgs → List ℕ → Question
+  readOver : (old : ℕ) → TileArgs → List ℕ → Question
+  reusedOver : (old : ℕ) → FrameType → (width height : ℕ) → TileArgs → List ℕ → Question
 
 -- an accepted layout: what the tile program prints, in its order, and the columns' logarithm;
 -- document 01 names a part of it in each row
@@ -49,14 +53,15 @@ pub record Tiles : Type 0 where
   pub rowStarts : List ℕ
   pub log2Cols : ℕ
 
--- what comes of it: a refusal by its number, an accepted layout, an accepted header's largest frame and sample layout, rectangles, or how many bits are
--- written and their bytes
+-- what comes of it: a refusal by its number, an accepted layout, an accepted header's largest frame and sample layout, rectangles, how many bits are
+-- written and their bytes, or the answer's number with all column starts and all row starts that are left
 pub data Result : Type 0 where
   refusedWith : ℕ → Result
   tiles : Tiles → Result
   picture : (width height : ℤ) → PixelLayout → Result
   numbers : List ℕ → Result
   bits : ℕ → List ℕ → Result
+  starts : ℕ → List ℕ → List ℕ → Result
 
 -- the result of a layout read from the bytes s
 abbrev pub layoutResult : List ℕ → TileRead → Result
@@ -110,9 +115,47 @@ sequenceWith a s =
       t = layoutFrom a s .info;
     }
 
--- an inter frame of w by h samples, over the zero layout and without data
-abbrev pub frameIn : SeqLayout → ℕ → ℕ → FrameRead
-frameIn q w h = parseTileInfoFrmhdr [] (placeAt 0 false) (record { «frame_type» = Inter; width = pos w; height = pos h; sb128 = 0; tiling = noTileInfo }) q
+-- a frame of w by h samples, over the zero layout and without data
+abbrev pub frameIn : SeqLayout → FrameType → ℕ → ℕ → FrameRead
+frameIn q type w h = parseTileInfoFrmhdr [] (placeAt 0 false) (record { «frame_type» = type; width = pos w; height = pos h; sb128 = 0; tiling = noTileInfo }) q
+
+-- a layout with other starts
+abbrev pub withStarts : TileInfo → List ℕ → List ℕ → TileInfo
+withStarts t cols rows =
+    record {
+      uniform = t .uniform;
+      «min_log2_cols» = t .«min_log2_cols»;
+      «max_log2_cols» = t .«max_log2_cols»;
+      «log2_cols» = t .«log2_cols»;
+      cols = t .cols;
+      «min_log2_rows» = t .«min_log2_rows»;
+      «max_log2_rows» = t .«max_log2_rows»;
+      «log2_rows» = t .«log2_rows»;
+      rows = t .rows;
+      «col_start_sb» = cols;
+      «row_start_sb» = rows;
+    }
+
+-- n starts and the closing one, and `old` behind them
+abbrev pub oldBehind : ℕ → ℕ → List ℕ → List ℕ
+oldBehind old n edges = take (n + 1) edges ++ replicate (64 - n) old
+
+-- a sequence whose record has `old` behind the closing entries of its layout
+abbrev pub oldSequence : ℕ → SeqLayout → SeqLayout
+oldSequence old q =
+    record {
+      sb128 = q .sb128;
+      «max_width» = q .«max_width»;
+      «max_height» = q .«max_height»;
+      level = q .level;
+      tier = q .tier;
+      present = q .present;
+      t = withStarts (q .t) (oldBehind old (q .t .cols) (q .t .«col_start_sb»)) (oldBehind old (q .t .rows) (q .t .«row_start_sb»));
+    }
+
+-- all starts of a record, with the answer's number
+abbrev pub startsResult : Answer → TileInfo → Result
+startsResult z t = starts (numberOf z) (t .«col_start_sb») (t .«row_start_sb»)
 
 -- what parse_tile_info, parse_seq_hdr and parse_tile_info_frmhdr are proved to answer, each from the first bit, and tile_rectangles and write_tile_info of a
 -- layout
@@ -120,8 +163,11 @@ unfoldable pub answerTo : Question → Result
 answerTo (layout a s) = layoutResult s (layoutFrom a s)
 answerTo (header strict s) = headerResult (parseSeqHdr s (placeAt 0 false) strict)
 answerTo (rectanglesOf a s) = then (layoutFrom a s) λ r. rectanglesResult (r .answer) (r .info) (a .«frame_code») (a .width) (a .height)
-answerTo (rectanglesReused w h a s) = then (frameIn (sequenceWith a s) w h) λ r. rectanglesResult (r .answer) (r .hdr .tiling) (r .hdr .sb128) w h
+answerTo (rectanglesReused w h a s) = then (frameIn (sequenceWith a s) Inter w h) λ r. rectanglesResult (r .answer) (r .hdr .tiling) (r .hdr .sb128) w h
 answerTo (written a s) = writtenResult a (layoutFrom a s)
+answerTo (readOver old a s) =
+    then (parseTileInfo s (placeAt 0 false) (withStarts noTileInfo (replicate 65 old) (replicate 65 old)) a) λ r. startsResult (r .answer) (r .info)
+answerTo (reusedOver old type w h a s) = then (frameIn (oldSequence old (sequenceWith a s)) type w h) λ r. startsResult (r .answer) (r .hdr .tiling)
 
 -- a reading: what is read, and what document 01 or the request says comes of it
 pub record Row : Type 0 where
@@ -217,6 +263,15 @@ table =
     ∷ written (frameOfPair12 600 128) (0xE0 ∷ []) gives bits 4 (0xE0 ∷ [])
     ∷ written (frameOfPair12 600 128) (0xF0 ∷ []) gives bits 4 (0xF0 ∷ [])
     ∷ written (frameOfPair12 600 128) (0x30 ∷ []) gives bits 5 (0x30 ∷ [])
+    -- #107: behind the closing entries stand zeros, whatever stood there before: of 330 by 64, E0.
+    ∷ readOver 7 (frame 330 64) (0xE0 ∷ [])
+    gives starts 0 (0 ∷ 2 ∷ 3 ∷ 4 ∷ 6 ∷ replicate 60 0) (0 ∷ 1 ∷ replicate 63 0)
+    -- A refusal hands back the record given.
+    ∷ readOver 7 (frame 4160 64) [] gives starts 2 (replicate 65 7) (replicate 65 7)
+    -- Reused, with multiplier 1: the sequence 256 wide with the starts 0 2 4, in a frame 192 wide.
+    ∷ reusedOver 7 Inter 192 64 (frame 256 64) (0xC0 ∷ []) gives starts 0 (0 ∷ 2 ∷ 4 ∷ replicate 62 0) (0 ∷ 1 ∷ replicate 63 0)
+    -- With multiplier 2: a key frame of a sequence with code 2, whose starts are 0 1 3.
+    ∷ reusedOver 7 Key 600 128 (argsOf (pos 1) 2 2 (pos 600) (pos 128) 0 0) (0xC0 ∷ []) gives starts 0 (0 ∷ 2 ∷ 5 ∷ replicate 62 0) (0 ∷ 1 ∷ replicate 63 0)
     ∷ []
 
 -- the claim: every row of the table holds

@@ -12,7 +12,7 @@ use Rattle.superblocks.specs.Counts.{multiplierOf}
 use Rattle.text.specs.Text.{word, decimal, decimalIn, nexts, row}
 use Rattle.program.specs.Output.{refusedText, chosenText, eitherText}
 use Rattle.rectangles.specs.Rectangles.{rising, hasRectangles, each}
-use Rattle.tile_request.specs.Request.{tileRequest}
+use Rattle.tile_request.specs.Request.{requestOver, tileRequest}
 use Rattle.rects.specs.Print.{rectanglesText, readText, tileRectsText, rectsText}
 
 -- 256 by 128, non-uniform: columns 0 2 3 4, rows 0 1 2
@@ -22,7 +22,7 @@ two-rows :
 unfolding leadingZeros then turns bitsAt position readBits getBit getBits getFlag runOf getUniform
     inDomain superblocks widthLimit areaLimit doublings minLog2Cols maxLog2Cols maxLog2Rows minLog2Tiles
     tabulate readSizes sum widest startsFrom rowArea rowLimit readCols readRows nonUniformInfo nonUniformLayout parseTileInfo multiplierOf
-    word decimal decimalIn nexts row tileRequest rising hasRectangles each rectanglesText readText tileRectsText chosenText eitherText rectsText
+    word decimal decimalIn nexts row requestOver tileRequest rising hasRectangles each rectanglesText readText tileRectsText chosenText eitherText rectsText
 two-rows = refl
 
 -- 330 by 64, uniform: columns 0 2 3 4 6
@@ -32,7 +32,7 @@ cut :
 unfolding leadingZeros then turns bitsAt position readBits getBit getBits getFlag runOf
     inDomain superblocks widthLimit areaLimit doublings minLog2Cols maxLog2Cols maxLog2Rows minLog2Tiles
     tabulate fullCount base count larger startAt readLog2 uniformInfo uniformLayout parseTileInfo multiplierOf
-    word decimal decimalIn nexts row tileRequest rising hasRectangles each rectanglesText readText tileRectsText chosenText eitherText rectsText
+    word decimal decimalIn nexts row requestOver tileRequest rising hasRectangles each rectanglesText readText tileRectsText chosenText eitherText rectsText
 cut = refl
 
 nothing : rectsText [] ≡ word "no 4\n"

@@ -21,6 +21,7 @@ use Rattle.seq_hdr.specs.Tiling.{tileInfoIf, readTiling}
 use Rattle.seq_hdr.specs.Header.{refusedHeader, checkTrailingBits, readHead, withTiling, parseSeqHdr}
 use Rattle.seq_hdr.specs.HeaderLayout.{HasLayout, layoutPlace, layoutArgs, layoutCall, HeaderLayout}
 use Rattle.seq_hdr.proofs.Bounds.{head-in}
+use Rattle.seq_hdr.proofs.Cleared.{header-cleared}
 
 -- what is said of an answer behind an accepted layout t
 record Behind (t : TileInfo) (r : SeqRead) : Type 0 where
@@ -101,4 +102,5 @@ header-layout s p strict =
           by-test (parseSeqHdr s p strict .hdr .tiling .t ≡ layoutCall s p .info) (isRefusal (layoutCall s p .answer))
           (λ t. absurd (refused-and-not s p strict has t e))
           (λ f. behind s p strict has f .kept e);
+      cleared = header-cleared s p strict;
     }

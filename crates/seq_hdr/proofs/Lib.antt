@@ -1,3 +1,4 @@
 pub mod Bounds
 pub mod HeaderLayout
 pub mod Refused
+pub mod Cleared

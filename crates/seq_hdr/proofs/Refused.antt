@@ -57,9 +57,9 @@ groups start level format s p =
     let refs = readRefFrames reduced s (motion .next) in
     picked Refused (ltb 8 (refs .fields .«ref_frames»)) _ _ (λ _. refused InvalidSequenceHeader (refs .next) (omega arith)) (λ _. accepted _ _)
 
-head : (s : List ℕ) (p : Place) → Refused (readHead s p)
+pub head-refused : (s : List ℕ) (p : Place) → Refused (readHead s p)
 unfolding readHead then
-head s p =
+head-refused s p =
     let start = readStart s p in
     let level = readLevel s (start .next) in
     let format = readFormat (level .«layout_idx») s (level .next) in
@@ -74,7 +74,7 @@ header-refused s p strict =
     let h = readHead s p in
     let tiling = readTiling (h .hdr .blocks .partition .sb128) (h .hdr .picture .size) (h .hdr .level) s (h .next) in
     let grain = getFlag s (tiling .next) in
-    picked Refused (isRefusal (h .answer)) _ _ (λ _. head s p)
+    picked Refused (isRefusal (h .answer)) _ _ (λ _. head-refused s p)
     (λ _. picked Refused (isRefusal (tiling .answer)) _ _ (λ _. refused InvalidTileInfo (tiling .next) (omega arith))
     (λ _. picked Refused (grain .next .error) _ _ (λ _. refused InvalidSequenceHeader (grain .next) (omega arith))
     (λ _. trailing strict (withTiling (h .hdr) (tiling .fields) (grain .value)) s (grain .next))))

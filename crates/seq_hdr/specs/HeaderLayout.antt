@@ -1,4 +1,4 @@
--- DEMAND 3 of the layout that a sequence header has, whatever the bytes s and the place p.
+-- DEMAND 3 of the layout that a sequence header has, and what stands behind its closing entries, whatever the bytes s and the place p.
 use mathlib.Core.Path.{_≡_}
 use mathlib.Core.Bool.{true, false}
 use mathlib.Core.List.{List}
@@ -11,6 +11,7 @@ use Rattle.tile_layout.specs.declared.TileRead.{TileRead}
 use Rattle.tile_layout.specs.Limits.{noTileInfo}
 use Rattle.tile_layout.specs.Layout.{parseTileInfo}
 use Rattle.tile_layout.specs.Demand3.{Demand3}
+use Rattle.tile_layout.specs.Cleared.{Cleared}
 use Rattle.seq_record.specs.declared.SequenceHeader.{SequenceHeader}
 use Rattle.seq_hdr.specs.declared.SeqRead.{SeqRead}
 use Rattle.seq_hdr.specs.Tiling.{tilingArgs}
@@ -43,3 +44,5 @@ pub record HeaderLayout (s : List ℕ) (p : Place) (r : SeqRead) : Type 0 where
   pub refused-only-then : HasLayout s p → numberOf (r .answer) ≡ 2 → isRefusal (layoutCall s p .answer) ≡ true
   -- an accepted header has the call's layout
   pub layout : HasLayout s p → isRefusal (r .answer) ≡ false → r .hdr .tiling .t ≡ layoutCall s p .info
+  -- and every header, accepted or not, zeros behind its layout's closing entries: request #107
+  pub cleared : Cleared (r .hdr .tiling .t)

@@ -2,7 +2,7 @@
 use mathlib.Core.Path.{_≡_, refl, subst}
 use mathlib.Core.Bool.{Bool, true, false, _&&_}
 use mathlib.Core.List.{List}
-use Prim.Native.Nat.{ℕ, zero, suc, _+_, _-_, _*_, _/_, _^_, _≤_, _<_}
+use Prim.Native.Nat.{ℕ, zero, suc, _+_, _-_, _*_, _/_, _%_, _^_, _≤_, _<_}
 use native.Mathlib.Nat.{mul-le-mul, mul-le-mul-left, lt-of-le-of-lt, le-trans, div-le-of-le-mul, div-mul-le-self}
 use native.Mathlib.Omega.{arith}
 use lib.Dec.{T, lit<, eqb}
@@ -41,6 +41,10 @@ legal = pairs (λ f q m. multiplierOf f q ≡ m) refl refl refl refl
 pub low-multiplier : (f q : ℕ) → multiplierOf f q ≤ 2
 unfolding multiplierOf
 low-multiplier f q = picked (λ (m : ℕ). m ≤ 2) (eqb f 1 && eqb q 2) 2 1 (λ e. omega arith) (λ e. omega arith)
+
+-- a start in the frame's superblocks, as it is stored
+pub start-fits : (m x : ℕ) → m ≤ 2 → x ≤ 1024 → m * x % 4294967296 % 65536 ≡ m * x
+start-fits m x h k = omega (arith, mul-le-mul {n₂ = 2} {m₂ = 1024} h k)
 
 -- and 1 where it is not 2
 pub not-doubled : (f q : ℕ) → eqb (multiplierOf f q) 2 ≡ false → multiplierOf f q ≡ 1

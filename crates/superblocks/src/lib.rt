@@ -373,14 +373,6 @@ impl SeqStarts {
         let at = entry(i);
         SeqSb(self.0[at] as u32)
     }
-
-    // As a record has them.
-    pub fn entries(self) -> [u16; 65]
-        ensures { λ r. ⌜ r ≡ self .0 ⌝ }
-    {
-        let starts = self.0;
-        starts
-    }
 }
 
 // The start of tile i is stored, or the closing one.

@@ -11,7 +11,7 @@ use Rattle.tile_layout.specs.Layout.{rowArea, rowLimit, readCols, readRows, non
 use Rattle.superblocks.specs.Counts.{multiplierOf}
 use Rattle.text.specs.Text.{word, decimal, decimalIn, nexts, row}
 use Rattle.program.specs.Output.{acceptedText, refusedText}
-use Rattle.tile_request.specs.Request.{tileRequest}
+use Rattle.tile_request.specs.Request.{requestOver, tileRequest}
 use Rattle.tile_request.specs.Print.{tileHeadText, tileLayoutText, tileReadText}
 use Rattle.tile.specs.Print.{tileText}
 
@@ -20,9 +20,9 @@ unfolding leadingZeros then turns bitsAt position readBits getBit getBits getFla
     inDomain superblocks widthLimit areaLimit doublings minLog2Cols maxLog2Cols maxLog2Rows minLog2Tiles
     tabulate fullCount base count larger startAt readLog2 uniformInfo uniformLayout readSizes sum widest startsFrom
     rowArea rowLimit readCols readRows nonUniformInfo nonUniformLayout parseTileInfo multiplierOf
-    word decimal decimalIn nexts row tileRequest tileHeadText tileLayoutText acceptedText refusedText tileReadText tileText
+    word decimal decimalIn nexts row requestOver tileRequest tileHeadText tileLayoutText acceptedText refusedText tileReadText tileText
 listing = refl
 
 nothing : tileText [] ≡ word "no 4\n"
-unfolding word decimal decimalIn nexts tileRequest refusedText tileReadText tileText
+unfolding word decimal decimalIn nexts requestOver tileRequest refusedText tileReadText tileText
 nothing = refl

@@ -7,7 +7,7 @@ use lib.ListN.{length}
 use Rattle.tile_layout.specs.declared.TileArgs.{TileArgs}
 use Rattle.tile_layout.specs.Limits.{sbw, sbh, widthLimit, tileLog2, minLog2Cols, maxLog2Cols, maxLog2Rows, minLog2Tiles}
 use Rattle.tile_layout.specs.Layout as layout
-use Rattle.tile_layout.specs.Layout.{sum, widest, startsFrom, nonUniformEdges, over}
+use Rattle.tile_layout.specs.Layout.{sum, widest, startsFrom, nonUniformEdges, padded}
 use Rattle.superblocks.specs.declared.Pair.{Pair}
 use Rattle.tile_info.specs.declared.limits.FrameLimits.{FrameLimits}
 use Rattle.tile_info.specs.declared.nonuniform.Sizes.{Sizes}
@@ -29,20 +29,20 @@ pub record Known (a : TileArgs) (k : FrameLimits) : Type 0 where
   pub max-rows : k .«max_log2_rows» ≡ maxLog2Rows a
   pub min-tiles : k .«min_log2_tiles» ≡ minLog2Tiles a
 
--- the sizes z, with their starts over the old ones in `starts`
-pub record SizesOf (z : layout.Sizes) (old : List ℕ) (r : Sizes) (starts : List ℕ) : Type 0 where
+-- the sizes z, with their starts in `starts`
+pub record SizesOf (z : layout.Sizes) (r : Sizes) (starts : List ℕ) : Type 0 where
   pub counted : r .tiles ≡ length (z .sizes)
   pub summed : r .sum .0 ≡ sum (z .sizes)
   pub wides : r .widest .0 ≡ widest (z .sizes)
   pub stands : r .next ≡ z .next
-  pub stored : starts ≡ over (startsFrom 0 (z .sizes)) old
+  pub stored : starts ≡ padded (startsFrom 0 (z .sizes))
   pub few : r .tiles ≤ 64
 
 -- the sizes z, closed at `total`
-pub record TilesOf (z : layout.Sizes) (total : ℕ) (old : List ℕ) (r : Tiles) (starts : List ℕ) : Type 0 where
+pub record TilesOf (z : layout.Sizes) (total : ℕ) (r : Tiles) (starts : List ℕ) : Type 0 where
   pub counted : r .tiles ≡ length (z .sizes)
   pub log : r .log2 ≡ tileLog2 1 (length (z .sizes))
   pub left : r .short ≡ ltb (sum (z .sizes)) total
   pub wides : r .widest .0 ≡ widest (z .sizes)
   pub stands : r .next ≡ z .next
-  pub stored : starts ≡ over (nonUniformEdges (z .sizes) total) old
+  pub stored : starts ≡ padded (nonUniformEdges (z .sizes) total)

@@ -5,6 +5,7 @@ ghost use Rattle.getbits.specs.Chain.{pick};
 ghost use Rattle.tile_layout.specs.Limits.{argsOf, inDomain, sbw, sbh, widthLimit};
 ghost use Rattle.tile_layout.specs.Layout.{rowLimit, uniformLayout, invalidTileInfo, nonUniformLayout, parseTileInfo};
 ghost use Rattle.tile_layout.specs.Demand3.{Demand3};
+ghost use Rattle.tile_layout.specs.Cleared.{ReadOver};
 ghost use Rattle.tile_info.specs.Inner.{Known};
 use answers::Answer;
 use getbits::Place;
@@ -72,16 +73,16 @@ pub fn row_bounds(a: TileArgs, widest_tile: FrameSb) -> SizeBounds
 }
 
 // The uniform rule, from behind the flag.
-fn uniform_layout(s: &[u8], p: Place, thdr: TileInfo, a: TileArgs, k: FrameLimits) -> TileRead
+fn uniform_layout(s: &[u8], p: Place, a: TileArgs, k: FrameLimits) -> TileRead
     requires { ⌜ inDomain a ≡ true ⌝ }
     requires { ⌜ Known a k ⌝ }
-    ensures { λ r. ⌜ r ≡ uniformLayout (now (s .entry)) p thdr a ⌝ }
+    ensures { λ r. ⌜ r ≡ uniformLayout (now (s .entry)) p a ⌝ }
 {
     let c = read_log2(s, p, k.min_log2_cols, k.max_log2_cols);
     let min_log2_rows = usub(k.min_log2_tiles, c.log2);
     let r = read_log2(s, c.next, min_log2_rows, k.max_log2_rows);
-    let mut col_starts = thdr.col_start_sb;
-    let mut row_starts = thdr.row_start_sb;
+    let mut col_starts = [0u16; 65];
+    let mut row_starts = [0u16; 65];
     let cols = uniform_starts(&mut col_starts, a, k.pair, a.width, k.sbw, c.log2);
     let rows = uniform_starts(&mut row_starts, a, k.pair, a.height, k.sbh, r.log2);
     let info = TileInfo {
@@ -122,12 +123,12 @@ fn nonuniform_layout(s: &[u8], p: Place, thdr: TileInfo, a: TileArgs, k: FrameLi
     requires { ⌜ Known a k ⌝ }
     ensures { λ r. ⌜ r ≡ nonUniformLayout (now (s .entry)) p thdr a ⌝ }
 {
-    let mut col_start_sb = thdr.col_start_sb;
+    let mut col_start_sb = [0u16; 65];
     let cols = read_tiles(s, p, &mut col_start_sb, k.sbw, k.max_tile_width_sb);
     if cols.short {
         return invalid_tile_info(thdr, cols.next);
     }
-    let mut row_start_sb = thdr.row_start_sb;
+    let mut row_start_sb = [0u16; 65];
     let max_height = max_tile_height_sb(a, k, cols.widest);
     let rows = read_tiles(s, cols.next, &mut row_start_sb, k.sbh, max_height);
     if rows.short {
@@ -162,7 +163,7 @@ fn read_layout(s: &[u8], p: Place, thdr: TileInfo, a: TileArgs) -> TileRead
     let k = frame_limits(a);
     let uniform = get_bit(s, p);
     if uniform.value == 1 {
-        return uniform_layout(s, uniform.next, thdr, a, k);
+        return uniform_layout(s, uniform.next, a, k);
     }
     nonuniform_layout(s, uniform.next, thdr, a, k)
 }
@@ -182,6 +183,7 @@ pub fn parse_tile_info(
     ensures { λ r. ⌜ r ≡ parseTileInfo (now (s .entry)) p thdr (argsOf sbmul sb128 «seq_sb128» w h level tier) ⌝ }
     ensures { λ r. ⌜ (inDomain (argsOf sbmul sb128 «seq_sb128» w h level tier) ≡ true
         → Demand3 (now (s .entry)) p (argsOf sbmul sb128 «seq_sb128» w h level tier) r) ⌝ }
+    ensures { λ r. ⌜ ReadOver thdr r ⌝ }
 {
     let a = tile_args(sbmul, sb128, seq_sb128, w, h, level, tier);
     if in_domain(a) {

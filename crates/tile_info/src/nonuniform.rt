@@ -2,7 +2,7 @@
 ghost use mathlib.Core.Path.{_≡_};
 ghost use mathlib.Core.Bool.{true};
 ghost use Prim.Native.Nat.{_≤_};
-ghost use lib.ListN.{length};
+ghost use lib.ListN.{replicate};
 ghost use Rattle.tile_layout.specs.Limits.{inDomain};
 ghost use Rattle.tile_layout.specs.Layout.{readSizes, rowLimit};
 ghost use Rattle.tile_info.specs.Inner.{Known, SizesOf, TilesOf};
@@ -23,8 +23,8 @@ pub struct Sizes {
 
 // Sizes are read until nothing of `total` remains or there are 64.
 fn read_sizes(s: &[u8], p: Place, starts: &mut [u16; 65], total: FrameSb, limit: FrameSb) -> Sizes
-    requires { ⌜ (length (now starts) ≡ 65) × (total .0 ≤ 1024) × (1 ≤ limit .0) ⌝ }
-    ensures { λ r. ⌜ SizesOf (readSizes 64 (now (s .entry)) p (total .0) (limit .0)) (now (starts .entry)) r (now (starts .exit)) ⌝ }
+    requires { ⌜ (now starts ≡ replicate 65 0) × (total .0 ≤ 1024) × (1 ≤ limit .0) ⌝ }
+    ensures { λ r. ⌜ SizesOf (readSizes 64 (now (s .entry)) p (total .0) (limit .0)) r (now (starts .exit)) ⌝ }
 {
     let mut next = p;
     let mut sbx = FrameSb::none();
@@ -55,9 +55,15 @@ pub struct Tiles {
 }
 
 // The columns or rows of a layout, with the closing entry; `short` says that they leave superblocks over.
-pub fn read_tiles(s: &[u8], p: Place, starts: &mut [u16; 65], total: FrameSb, limit: FrameSb) -> Tiles
-    requires { ⌜ (length (now starts) ≡ 65) × (total .0 ≤ 1024) × (1 ≤ limit .0) ⌝ }
-    ensures { λ r. ⌜ TilesOf (readSizes 64 (now (s .entry)) p (total .0) (limit .0)) (total .0) (now (starts .entry)) r (now (starts .exit)) ⌝ }
+pub fn read_tiles(
+    s: &[u8],
+    p: Place,
+    starts: &mut [u16; 65],
+    total: FrameSb,
+    limit: FrameSb,
+) -> Tiles
+    requires { ⌜ (now starts ≡ replicate 65 0) × (total .0 ≤ 1024) × (1 ≤ limit .0) ⌝ }
+    ensures { λ r. ⌜ TilesOf (readSizes 64 (now (s .entry)) p (total .0) (limit .0)) (total .0) r (now (starts .exit)) ⌝ }
 {
     let z = read_sizes(s, p, starts, total, limit);
     let tiles = z.tiles;

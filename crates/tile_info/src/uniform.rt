@@ -3,9 +3,9 @@ ghost use mathlib.Core.Path.{_≡_};
 ghost use mathlib.Core.Bool.{true};
 ghost use mathlib.Core.List.{[], _∷_, _++_};
 ghost use Prim.Native.Nat.{_+_, _*_, _≤_, min};
-ghost use lib.ListN.{length};
+ghost use lib.ListN.{replicate};
 ghost use Rattle.tile_layout.specs.Limits.{superblocks, inDomain};
-ghost use Rattle.tile_layout.specs.Layout.{tabulate, over, readLog2, uniformCount, uniformEdges};
+ghost use Rattle.tile_layout.specs.Layout.{tabulate, padded, readLog2, uniformCount, uniformEdges};
 ghost use Rattle.superblocks.specs.Counts.{multiplierOf};
 ghost use Rattle.tile_info.specs.Inner.{Coded};
 use getbits::Place;
@@ -43,10 +43,10 @@ pub fn read_log2(s: &[u8], p: Place, least: u8, most: u8) -> Log2
 
 // The starts of an even split, and the closing entry.
 fn fill(starts: &mut [u16; 65], pair: Pair, split: Split, end: FrameSb)
-    requires { ⌜ (length (now starts) ≡ 65) × (split .tiles .0 ≤ 64) × (split .tile .0 * split .tiles .0 + split .extra .0 ≤ 1024) × (end .0 ≤ 1024) ⌝ }
+    requires { ⌜ (now starts ≡ replicate 65 0) × (split .tiles .0 ≤ 64) × (split .tile .0 * split .tiles .0 + split .extra .0 ≤ 1024) × (end .0 ≤ 1024) ⌝ }
     ensures { λ r.
         let multiplier = multiplierOf (pair .«frame_code») (pair .«seq_code») in
-        ⌜ now (starts .exit) ≡ over (tabulate (λ i. multiplier * (split .tile .0 * i + min i (split .extra .0))) 0 (split .tiles .0) ++ (end .0 ∷ [])) (now (starts .entry)) ⌝ }
+        ⌜ now (starts .exit) ≡ padded (tabulate (λ i. multiplier * (split .tile .0 * i + min i (split .extra .0))) 0 (split .tiles .0) ++ (end .0 ∷ [])) ⌝ }
 {
     let mut sbx = SeqSb::none();
     let mut i: u8 = 0;
@@ -72,8 +72,8 @@ pub fn uniform_starts(
 ) -> u8
     requires { ⌜ inDomain a ≡ true ⌝ }
     requires { ⌜ Coded a pair ⌝ }
-    requires { ⌜ (length (now starts) ≡ 65) × (1 ≤ n) × (n ≤ 65536) × (end .0 ≡ superblocks n (a .«frame_code»)) × (log2 ≤ 6) ⌝ }
-    ensures { λ r. ⌜ (r ≡ uniformCount a n log2) × (now (starts .exit) ≡ over (uniformEdges a n log2) (now (starts .entry))) ⌝ }
+    requires { ⌜ (now starts ≡ replicate 65 0) × (1 ≤ n) × (n ≤ 65536) × (end .0 ≡ superblocks n (a .«frame_code»)) × (log2 ≤ 6) ⌝ }
+    ensures { λ r. ⌜ (r ≡ uniformCount a n log2) × (now (starts .exit) ≡ padded (uniformEdges a n log2)) ⌝ }
 {
     let fsb = pair.full_count(n);
     let ssb = pair.seq_count(n);

@@ -6,7 +6,7 @@ use native.Mathlib.Nat.{mul-assoc, zero-add}
 use native.Mathlib.Decide.{decLt}
 use native.Mathlib.Omega.{arith}
 use lib.ListN.{length, getD}
-use Rattle.tile_layout.specs.Layout.{count, startAt, sum, tabulate, over, nonUniformEdges}
+use Rattle.tile_layout.specs.Layout.{count, startAt, sum, tabulate, padded, nonUniformEdges}
 use Rattle.tile_layout.proofs.Laws.{telescope}
 use Rattle.tile_layout.proofs.Even.{Step, even, few-tiles}
 use Rattle.tile_layout.proofs.Domain.{Along, Pair, pairs}
@@ -37,11 +37,11 @@ cut {n} {closing} {limit} {e} some few first last step =
     }
 
 -- the sizes that the non-uniform rule reads, where they fill the frame
-pub sized-cut : (sizes : List ℕ) (closing limit : ℕ) (old : List ℕ) → Sized 64 closing limit sizes → sum sizes ≡ closing → 1 ≤ closing
-    → Cut (length sizes) closing limit (λ k. getD (over (nonUniformEdges sizes closing) old) k 0)
-sized-cut sizes closing limit old z whole h =
-    cut (z .some (omega arith) h) (z .few) (edge-zeroth sizes closing whole old) (edge-closing sizes closing whole old)
-    (λ i l. omega (arith, gap sizes closing whole old i l, z .each i l))
+pub sized-cut : (sizes : List ℕ) (closing limit : ℕ) → Sized 64 closing limit sizes → sum sizes ≡ closing → 1 ≤ closing
+    → Cut (length sizes) closing limit (λ k. getD (padded (nonUniformEdges sizes closing)) k 0)
+sized-cut sizes closing limit z whole h =
+    cut (z .some (omega arith) h) (z .few) (edge-zeroth sizes closing whole) (edge-closing sizes closing whole)
+    (λ i l. omega (arith, gap sizes closing whole i l, z .each i l))
 
 -- what is between tile i and the next, from what is between inner tiles and before the end
 each : (P : ℕ → ℕ → Type 0) (n closing : ℕ) (e : ℕ → ℕ) → e n ≡ closing

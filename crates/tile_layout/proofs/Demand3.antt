@@ -48,32 +48,33 @@ module _ (s : List ℕ) (p : Place) (old : TileInfo) (a : TileArgs) (d : InDomai
       → (getBit s p .value ≡ 1 → a .«frame_code» ≡ a .«seq_code» → Balanced (t .rows) (λ k. getD (t .«row_start_sb») k 0))
       → AcceptedLayout s p a t × FromZero t
   accepted t most c r area cols rows = (
-      record {
-        some-cols = omega (arith, c .some);
-        most-cols = omega (arith, c .few);
-        some-rows = omega (arith, r .some);
-        most-rows = omega (arith, r .few);
-        col-not-empty = λ i h. omega (arith, c .filled i h);
-        row-not-empty = λ j h. omega (arith, r .filled j h);
-        width-limit = λ i h. omega (arith, c .narrow i h);
-        cols-add-up = c .adds;
-        rows-add-up = r .adds;
-        area-limit = λ flag i j h k. omega (arith, area (omega (arith, flag)) i j h k);
-        cols-even = λ flag one i k h l. omega (arith, cols (omega (arith, flag)) (omega (arith, one)) i k h l);
-        rows-even = λ flag one j k h l. omega (arith, rows (omega (arith, flag)) (omega (arith, one)) j k h l);
-      },
-      (c .first, r .first))
+    record {
+      some-cols = omega (arith, c .some);
+      most-cols = omega (arith, c .few);
+      some-rows = omega (arith, r .some);
+      most-rows = omega (arith, r .few);
+      col-not-empty = λ i h. omega (arith, c .filled i h);
+      row-not-empty = λ j h. omega (arith, r .filled j h);
+      width-limit = λ i h. omega (arith, c .narrow i h);
+      cols-add-up = c .adds;
+      rows-add-up = r .adds;
+      area-limit = λ flag i j h k. omega (arith, area (omega (arith, flag)) i j h k);
+      cols-even = λ flag one i k h l. omega (arith, cols (omega (arith, flag)) (omega (arith, one)) i k h l);
+      rows-even = λ flag one j k h l. omega (arith, rows (omega (arith, flag)) (omega (arith, one)) j k h l);
+    },
+    (c .first, r .first),
+  )
 
-  uniform-accepted : Uniform s p → (log log-rows : ℕ) → minLog2Cols a ≤ log → log ≤ 6 → log-rows ≤ 6 → AcceptedLayout s p a (uniformInfo a old log log-rows) × FromZero (uniformInfo a old log log-rows)
+  uniform-accepted : Uniform s p → (log log-rows : ℕ) → minLog2Cols a ≤ log → log ≤ 6 → log-rows ≤ 6 → AcceptedLayout s p a (uniformInfo a log log-rows) × FromZero (uniformInfo a log log-rows)
   unfolding uniformInfo
   uniform-accepted flag log log-rows lo hi hr =
       let c =
       even-cut _ _ _ (d .pair) _ _ log (widthLimit a) (sbw a) (across a d) hi (omega (arith, limits a d .some)) (limits a d .half)
-      (covers a d log lo) _ (start-at _ _ _ (old .«col_start_sb»)) (closing-at _ _ _ (old .«col_start_sb»)) in
+      (covers a d log lo) _ (start-at _ _ _) (closing-at _ _ _) in
       let r =
       even-cut _ _ _ (d .pair) _ _ log-rows (2 * sbh a) (sbh a) (down a d) hr (omega (arith, down a d .some)) (omega arith)
-      (omega (arith, le-mul-of-pos-right (2 * sbh a) (pow-pos log-rows))) _ (start-at _ _ _ (old .«row_start_sb»)) (closing-at _ _ _ (old .«row_start_sb»)) in
-      accepted (uniformInfo a old log log-rows) (2 * sbh a) (c .0) (r .0) (λ f. absurd (omega arith)) (λ _. c .1) (λ _. r .1)
+      (omega (arith, le-mul-of-pos-right (2 * sbh a) (pow-pos log-rows))) _ (start-at _ _ _) (closing-at _ _ _) in
+      accepted (uniformInfo a log log-rows) (2 * sbh a) (c .0) (r .0) (λ f. absurd (omega arith)) (λ _. c .1) (λ _. r .1)
 
   -- sizes that fill the frame, the rows' within the limit that the widest column leaves them
   sized-accepted : NonUniform s p → (widths heights : List ℕ) → sum widths ≡ sbw a → sum heights ≡ sbh a
@@ -81,11 +82,11 @@ module _ (s : List ℕ) (p : Place) (old : TileInfo) (a : TileArgs) (d : InDomai
       → AcceptedLayout s p a (nonUniformInfo a old widths heights) × FromZero (nonUniformInfo a old widths heights)
   unfolding nonUniformInfo
   sized-accepted flag widths heights ws hs w h =
-      let col = gap widths (sbw a) ws (old .«col_start_sb») in
-      let row = gap heights (sbh a) hs (old .«row_start_sb») in
+      let col = gap widths (sbw a) ws in
+      let row = gap heights (sbh a) hs in
       accepted (nonUniformInfo a old widths heights) (rowLimit a (widest widths))
-      (sized-cut widths (sbw a) (widthLimit a) (old .«col_start_sb») w ws (across a d .some))
-      (sized-cut heights (sbh a) (rowLimit a (widest widths)) (old .«row_start_sb») h hs (down a d .some))
+      (sized-cut widths (sbw a) (widthLimit a) w ws (across a d .some))
+      (sized-cut heights (sbh a) (rowLimit a (widest widths)) h hs (down a d .some))
       (λ _ i j l m.
       le-trans
       (mul-le-mul {n₂ = widest widths} {m₂ = rowLimit a (widest widths)}
@@ -101,7 +102,7 @@ module _ (s : List ℕ) (p : Place) (old : TileInfo) (a : TileArgs) (d : InDomai
   unfolding readRows rowLimit
   rows-sized = sizes-read 64 s _ (sbh a) _ (omega arith)
 
-  uniform-meets : Uniform s p → Met s p a (uniformLayout s (getBit s p .next) old a)
+  uniform-meets : Uniform s p → Met s p a (uniformLayout s (getBit s p .next) a)
   unfolding uniformLayout then
   uniform-meets flag =
       let q = getBit s p .next in
@@ -162,7 +163,7 @@ module _ (s : List ℕ) (p : Place) (old : TileInfo) (a : TileArgs) (d : InDomai
         begins = λ _. layout .1;
       }))
 
-  read-meets : Met s p a (pick (eqb (getBit s p .value) 1) (uniformLayout s (getBit s p .next) old a) (nonUniformLayout s (getBit s p .next) old a))
+  read-meets : Met s p a (pick (eqb (getBit s p .value) 1) (uniformLayout s (getBit s p .next) a) (nonUniformLayout s (getBit s p .next) old a))
   read-meets =
       picked (Met s p a) (eqb (getBit s p .value) 1) _ _
       (λ e. uniform-meets (eqb-true _ _ e))

@@ -5,9 +5,9 @@ use Prim.Native.Nat.{ℕ, zero, suc, _+_, _-_, _*_, _≤_, _<_}
 use native.Mathlib.Nat.{add-zero, zero-add, mul-suc}
 use native.Mathlib.Numerals.{add-one}
 use native.Mathlib.Omega.{arith}
-use lib.ListN.{length, getD, drop, set, length-append, List·getD-append}
-use lib.Seq.{getD-at, drop-cons, set-at}
-use Rattle.tile_layout.specs.Layout.{tabulate, over, sum}
+use lib.ListN.{length, getD, set, replicate, length-append, List·getD-append}
+use lib.Seq.{getD-at, set-at}
+use Rattle.tile_layout.specs.Layout.{tabulate, padded, sum}
 
 -- one factor more
 pub times-next : (m i : ℕ) → m * (i + 1) ≡ m * i + m
@@ -33,44 +33,57 @@ tabulate-more f i (suc n) =
     ap (λ (t : List ℕ). f i ∷ t) (tabulate-more f (suc i) n ∙ ap (λ (k : ℕ). tabulate f (suc i) n ++ (f k ∷ [])) q)
 
 -- an entry of edges that end in a closing one, in the array after
-pub over-at : (xs : List ℕ) (closing : ℕ) (old : List ℕ) (k : ℕ) → k ≤ length xs
-    → getD (over (xs ++ (closing ∷ [])) old) k 0 ≡ getD (xs ++ (closing ∷ [])) k 0
-over-at xs closing old k h = List·getD-append (xs ++ (closing ∷ [])) _ 0 k (omega (arith, length-append xs (closing ∷ [])))
+pub padded-at : (xs : List ℕ) (closing k : ℕ) → k ≤ length xs → getD (padded (xs ++ (closing ∷ []))) k 0 ≡ getD (xs ++ (closing ∷ [])) k 0
+padded-at xs closing k h = List·getD-append (xs ++ (closing ∷ [])) _ 0 k (omega (arith, length-append xs (closing ∷ [])))
 
-module _ (f : ℕ → ℕ) (n closing : ℕ) (old : List ℕ) where
-  pub start-at : (k : ℕ) → k < n → getD (over (tabulate f 0 n ++ (closing ∷ [])) old) k 0 ≡ f k
+-- zeros, and zeros behind a list
+pub zeros-at : (n k : ℕ) → _≡_ {A = ℕ} (getD (replicate n 0) k 0) 0
+zeros-at zero k = refl
+zeros-at (suc n) zero = refl
+zeros-at (suc n) (suc k) = zeros-at n k
+
+zeros-behind : (n : ℕ) (xs : List ℕ) (k : ℕ) → length xs ≤ k → getD (xs ++ replicate n 0) k 0 ≡ 0
+zeros-behind n [] k h = zeros-at n k
+zeros-behind n (x ∷ xs) zero h = absurd (omega arith)
+zeros-behind n (x ∷ xs) (suc k) h = zeros-behind n xs k (omega arith)
+
+-- behind the closing entry, the n-th, stands 0
+pub behind-closing : (xs : List ℕ) (closing n : ℕ) → length xs ≡ n → (k : ℕ) → n < k → getD (padded (xs ++ (closing ∷ []))) k 0 ≡ 0
+behind-closing xs closing n e k h =
+    let edges = xs ++ (closing ∷ []) in
+    zeros-behind (65 - length edges) edges k (omega (arith, length-append xs (closing ∷ [])))
+
+module _ (f : ℕ → ℕ) (n closing : ℕ) where
+  pub start-at : (k : ℕ) → k < n → getD (padded (tabulate f 0 n ++ (closing ∷ []))) k 0 ≡ f k
   start-at k h =
       let l = length-tabulate f 0 n in
-      over-at (tabulate f 0 n) closing old k (omega arith)
+      padded-at (tabulate f 0 n) closing k (omega arith)
       ∙ List·getD-append (tabulate f 0 n) (closing ∷ []) 0 k (omega arith)
       ∙ getD-tabulate f 0 n k h
       ∙ ap f (zero-add k)
 
-  pub closing-at : getD (over (tabulate f 0 n ++ (closing ∷ [])) old) n 0 ≡ closing
+  pub closing-at : getD (padded (tabulate f 0 n ++ (closing ∷ []))) n 0 ≡ closing
   closing-at =
       let l = length-tabulate f 0 n in
-      over-at (tabulate f 0 n) closing old n (omega arith) ∙ getD-at (tabulate f 0 n) closing [] 0 n l
+      padded-at (tabulate f 0 n) closing n (omega arith) ∙ getD-at (tabulate f 0 n) closing [] 0 n l
 
--- the list over another grows by one at its end
-pub grow : (xs old : List ℕ) (n v : ℕ) → length xs ≡ n → n < length old → set (over xs old) n v ≡ over (xs ++ (v ∷ [])) old
-grow xs old n v e h =
-    let l : length xs < length old = omega arith in
-    let q : suc (length xs) ≡ length (xs ++ (v ∷ [])) = omega (arith, length-append xs (v ∷ [])) in
-    ap (λ (t : List ℕ). set (xs ++ t) n v) (drop-cons old (length xs) 0 l)
-    ∙ set-at xs (getD old (length xs) 0) (drop (suc (length xs)) old) v n e
-    ∙ sym (append-assoc xs (v ∷ []) (drop (suc (length xs)) old))
-    ∙ ap (λ (k : ℕ). (xs ++ (v ∷ [])) ++ drop k old) q
+-- a list with zeros behind it grows by one at its end
+pub grow : (xs : List ℕ) (n v : ℕ) → length xs ≡ n → n < 65 → set (padded xs) n v ≡ padded (xs ++ (v ∷ []))
+grow xs n v e h =
+    let q : 65 - length xs ≡ suc (65 - length (xs ++ (v ∷ []))) = omega (arith, length-append xs (v ∷ [])) in
+    let rest : List ℕ = replicate (65 - length (xs ++ (v ∷ []))) 0 in
+    ap (λ (k : ℕ). set (xs ++ replicate k 0) n v) q ∙ set-at xs 0 rest v n e ∙ sym (append-assoc xs (v ∷ []) rest)
 
 -- a start is stored
-pub stored : (f : ℕ → ℕ) (old : List ℕ) (n v : ℕ) → v ≡ f n → n < length old → set (over (tabulate f 0 n) old) n v ≡ over (tabulate f 0 (n + 1)) old
-stored f old n v e h =
-    grow (tabulate f 0 n) old n v (length-tabulate f 0 n) h
-    ∙ ap (λ (w : ℕ). over (tabulate f 0 n ++ (w ∷ [])) old) (e ∙ ap f (sym (zero-add n)))
-    ∙ ap (λ (t : List ℕ). over t old) (sym (tabulate-more f 0 n) ∙ ap (tabulate f 0) (sym (add-one n)))
+pub stored : (f : ℕ → ℕ) (n v : ℕ) → v ≡ f n → n < 65 → set (padded (tabulate f 0 n)) n v ≡ padded (tabulate f 0 (n + 1))
+stored f n v e h =
+    grow (tabulate f 0 n) n v (length-tabulate f 0 n) h
+    ∙ ap (λ (w : ℕ). padded (tabulate f 0 n ++ (w ∷ []))) (e ∙ ap f (sym (zero-add n)))
+    ∙ ap padded (sym (tabulate-more f 0 n) ∙ ap (tabulate f 0) (sym (add-one n)))
 
 -- and the closing one
-pub closed : (f : ℕ → ℕ) (old : List ℕ) (n v : ℕ) → n < length old → set (over (tabulate f 0 n) old) n v ≡ over (tabulate f 0 n ++ (v ∷ [])) old
-closed f old n v h = grow (tabulate f 0 n) old n v (length-tabulate f 0 n) h
+pub closed : (f : ℕ → ℕ) (n v : ℕ) → n < 65 → set (padded (tabulate f 0 n)) n v ≡ padded (tabulate f 0 n ++ (v ∷ []))
+closed f n v h = grow (tabulate f 0 n) n v (length-tabulate f 0 n) h
 
 -- what two lists add up to
 pub sum-append : (xs ys : List ℕ) → sum (xs ++ ys) ≡ sum xs + sum ys

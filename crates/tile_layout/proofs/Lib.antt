@@ -7,3 +7,4 @@ pub mod Cuts
 pub mod Area
 pub mod Demand3
 pub mod Lengths
+pub mod Cleared

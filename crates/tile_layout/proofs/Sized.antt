@@ -10,8 +10,8 @@ use Rattle.getbits.specs.declared.Number.{Number}
 use Rattle.getbits.specs.declared.Place.{Place}
 use Rattle.codes.specs.Codes.{getUniform}
 use Rattle.codes.proofs.Callers.{uniform-lt}
-use Rattle.tile_layout.specs.Layout.{readSizes, sum, widest, startsFrom, nonUniformEdges, over}
-use Rattle.tile_layout.proofs.Laws.{over-at}
+use Rattle.tile_layout.specs.Layout.{readSizes, sum, widest, startsFrom, nonUniformEdges, padded}
+use Rattle.tile_layout.proofs.Laws.{padded-at}
 
 -- sizes from 1 to `limit`, at most `most` of them, with a sum of at most `remains`
 pub record Sized (most remains limit : ℕ) (sizes : List ℕ) : Type 0 where
@@ -75,13 +75,13 @@ unfolding startsFrom
 length-starts [] at = refl
 length-starts (x ∷ xs) at = ap suc (length-starts xs (at + x))
 
-module _ (sizes : List ℕ) (closing : ℕ) (whole : sum sizes ≡ closing) (old : List ℕ) where
+module _ (sizes : List ℕ) (closing : ℕ) (whole : sum sizes ≡ closing) where
   -- the entries of the array after
   abbrev pub edge : ℕ → ℕ
-  edge k = getD (over (nonUniformEdges sizes closing) old) k 0
+  edge k = getD (padded (nonUniformEdges sizes closing)) k 0
 
   same-at : (k : ℕ) → k ≤ length sizes → edge k ≡ getD (startsFrom 0 sizes ++ (closing ∷ [])) k 0
-  same-at k h = over-at (startsFrom 0 sizes) closing old k (omega (arith, length-starts sizes 0))
+  same-at k h = padded-at (startsFrom 0 sizes) closing k (omega (arith, length-starts sizes 0))
 
   pub edge-zeroth : edge 0 ≡ 0
   edge-zeroth = same-at 0 (omega arith) ∙ edge-first sizes 0 closing (omega arith)

@@ -3,7 +3,7 @@ use mathlib.Core.Bool.{true, false}
 use mathlib.Core.List.{List, [], _∷_, _++_}
 use Prim.Native.Nat.{ℕ, zero, suc, _+_, _-_, _*_, _/_, _%_, _^_, min, max}
 use lib.Dec.{ltb, eqb}
-use lib.ListN.{length, drop}
+use lib.ListN.{length, replicate}
 use Rattle.answers.specs.declared.Answer.the-variants.{Accepted, InvalidTileInfo, WrongArguments}
 use Rattle.getbits.specs.Bits.{settled, getFlag}
 use Rattle.getbits.specs.Chain.{pick, then}
@@ -16,9 +16,9 @@ use Rattle.tile_layout.specs.declared.TileRead.{TileRead}
 use Rattle.tile_layout.specs.Limits.{inDomain, size, superblocks, sbw, sbh, widthLimit}
 use Rattle.tile_layout.specs.Limits.{tileLog2, minLog2Cols, maxLog2Cols, maxLog2Rows, minLog2Tiles}
 
--- the array after: the starts and the closing one, and behind them what was there
-abbrev pub over : List ℕ → List ℕ → List ℕ
-over edges old = edges ++ drop (length edges) old
+-- the array after: the starts and the closing one, and behind them zeros
+abbrev pub padded : List ℕ → List ℕ
+padded edges = edges ++ replicate (65 - length edges) 0
 
 -- f i, f (i + 1), .. : n of them
 unfoldable pub tabulate : (ℕ → ℕ) → ℕ → ℕ → List ℕ
@@ -63,8 +63,8 @@ uniformEdges a n log =
 unfoldable pub readLog2 : List ℕ → Place → ℕ → ℕ → Number
 readLog2 s p least most = plus least (runOf 1 (most - least) s p)
 
-unfoldable pub uniformInfo : TileArgs → TileInfo → ℕ → ℕ → TileInfo
-uniformInfo a old log-cols log-rows =
+unfoldable pub uniformInfo : TileArgs → ℕ → ℕ → TileInfo
+uniformInfo a log-cols log-rows =
     record {
       uniform = true;
       «min_log2_cols» = minLog2Cols a;
@@ -75,16 +75,16 @@ uniformInfo a old log-cols log-rows =
       «max_log2_rows» = maxLog2Rows a;
       «log2_rows» = log-rows;
       rows = uniformCount a (a .height) log-rows;
-      «col_start_sb» = over (uniformEdges a (a .width) log-cols) (old .«col_start_sb»);
-      «row_start_sb» = over (uniformEdges a (a .height) log-rows) (old .«row_start_sb»);
+      «col_start_sb» = padded (uniformEdges a (a .width) log-cols);
+      «row_start_sb» = padded (uniformEdges a (a .height) log-rows);
     }
 
 -- the columns' logarithm, then the rows', whose least is max(0, least tile logarithm - column logarithm)
-unfoldable pub uniformLayout : List ℕ → Place → TileInfo → TileArgs → TileRead
-uniformLayout s p old a =
+unfoldable pub uniformLayout : List ℕ → Place → TileArgs → TileRead
+uniformLayout s p a =
     then (readLog2 s p (minLog2Cols a) (maxLog2Cols a)) λ c.
     then (readLog2 s (c .next) (minLog2Tiles a - c .value) (maxLog2Rows a)) λ r.
-    record { answer = Accepted; info = uniformInfo a old (c .value) (r .value); next = r .next }
+    record { answer = Accepted; info = uniformInfo a (c .value) (r .value); next = r .next }
 
 -- NON-UNIFORM: sizes, and the place after them
 pub record Sizes : Type 0 where
@@ -134,6 +134,7 @@ readCols s p a = readSizes 64 s p (sbw a) (widthLimit a)
 unfoldable pub readRows : List ℕ → Sizes → TileArgs → Sizes
 readRows s c a = readSizes 64 s (c .next) (sbh a) (rowLimit a (widest (c .sizes)))
 
+-- of the record given min_log2_rows stays
 unfoldable pub nonUniformInfo : TileArgs → TileInfo → List ℕ → List ℕ → TileInfo
 nonUniformInfo a old widths heights =
     record {
@@ -146,8 +147,8 @@ nonUniformInfo a old widths heights =
       «max_log2_rows» = maxLog2Rows a;
       «log2_rows» = tileLog2 1 (length heights);
       rows = length heights;
-      «col_start_sb» = over (nonUniformEdges widths (sbw a)) (old .«col_start_sb»);
-      «row_start_sb» = over (nonUniformEdges heights (sbh a)) (old .«row_start_sb»);
+      «col_start_sb» = padded (nonUniformEdges widths (sbw a));
+      «row_start_sb» = padded (nonUniformEdges heights (sbh a));
     }
 
 -- 2, and the record given
@@ -167,5 +168,5 @@ nonUniformLayout s p old a =
 unfoldable pub parseTileInfo : List ℕ → Place → TileInfo → TileArgs → TileRead
 parseTileInfo s p old a =
     pick (inDomain a)
-    (then (getFlag s p) λ f. pick (f .value) (uniformLayout s (f .next) old a) (nonUniformLayout s (f .next) old a))
+    (then (getFlag s p) λ f. pick (f .value) (uniformLayout s (f .next) a) (nonUniformLayout s (f .next) old a))
     (record { answer = WrongArguments; info = old; next = settled s p })

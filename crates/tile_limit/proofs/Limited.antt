@@ -14,7 +14,9 @@ use Rattle.getbits.specs.declared.Place.{Place}
 use Rattle.getbits.proofs.Chain.{contrary, picked, left}
 use Rattle.tile_layout.specs.Demand3.{AcceptedLayout}
 use Rattle.tile_layout.specs.Layout.{parseTileInfo}
+use Rattle.tile_layout.specs.Cleared.{ReadOver}
 use Rattle.tile_layout.proofs.Demand3.{all-accepted}
+use Rattle.tile_layout.proofs.Cleared.{refused-over, read-over}
 use Rattle.tile_layout.specs.declared.TileArgs.{TileArgs}
 use Rattle.tile_layout.specs.declared.TileInfo.{TileInfo}
 use Rattle.tile_layout.specs.declared.TileRead.{TileRead}
@@ -22,6 +24,7 @@ use Rattle.frame_hdr.specs.Frame.{parseTileInfoFrmhdr, frameTiles}
 use Rattle.frame_hdr.specs.declared.FrameHeader.{FrameHeader}
 use Rattle.frame_hdr.specs.declared.FrameRead.{FrameRead}
 use Rattle.frame_hdr.specs.declared.SeqLayout.{SeqLayout}
+use Rattle.frame_hdr.proofs.Cleared.{frame-over}
 use Rattle.tile_limit.specs.Promises.{Over, Limited, LimitedTiles, FreshAccepted, LimitedFrame}
 use Rattle.tile_limit.specs.Within.{wall, isTooMany, tilesWithin, frameWithin, parseTileInfoWithin, parseTileInfoFrmhdrWithin}
 use Rattle.tile_limit.specs.declared.TileLimit.{TileLimit}
@@ -102,6 +105,11 @@ unfolding tilesWithin
 within-accepted P m old w f =
     picked (λ (z : TileRead). isRefusal (z .answer) ≡ false → P (z .info)) (isTooMany m w) _ _ (λ _ r. contrary refl r) (λ _. f)
 
+-- 6 hands back the record given
+within-over : (m : TileLimit) (old : TileInfo) (w : TileRead) → ReadOver old w → ReadOver old (tilesWithin m old w)
+unfolding tilesWithin
+within-over m old w o = picked (ReadOver old) (isTooMany m w) _ _ (λ _. refused-over _ refl refl) (λ _. o)
+
 -- a frame's layout within the limit
 tiles-of : (m : TileLimit) (h : FrameHeader) (z : FrameRead) → frameTiles (frameWithin m h z) ≡ tilesWithin m (h .tiling) (frameTiles z)
 unfolding tilesWithin frameWithin
@@ -120,6 +128,7 @@ limited-tiles s p old a m =
     record {
       limited = limited m w old o;
       accepted = within-accepted (AcceptedLayout s p a) m old w (all-accepted s p old a);
+      over = within-over m old w (read-over s p old a);
       as-on-wall = λ e. left _ _ _ (none-on-wall m w o e);
     }
 
@@ -133,5 +142,6 @@ limited-frame s p h q m =
       limited = subst (Limited m (frameTiles z)) same (limited m (frameTiles z) (h .tiling) o);
       accepted = subst (λ (x : TileRead). isRefusal (x .answer) ≡ false → FreshAccepted s p h q (x .info)) same
           (within-accepted (FreshAccepted s p h q) m (h .tiling) (frameTiles z) (frame-accepted s p h q));
+      over = subst (ReadOver (h .tiling)) same (within-over m (h .tiling) (frameTiles z) (frame-over s p h q));
       as-on-wall = λ e. left _ _ _ (none-on-wall m (frameTiles z) o e);
     }

@@ -7,6 +7,7 @@ use Prim.Native.Nat.{ℕ, _≤_, _<_}
 use Rattle.answers.specs.Numbers.{numberOf, isRefusal}
 use Rattle.getbits.specs.declared.Place.{Place}
 use Rattle.tile_layout.specs.Demand3.{AcceptedLayout}
+use Rattle.tile_layout.specs.Cleared.{ReadOver}
 use Rattle.tile_layout.specs.Layout.{parseTileInfo}
 use Rattle.tile_layout.specs.declared.TileArgs.{TileArgs}
 use Rattle.tile_layout.specs.declared.TileInfo.{TileInfo}
@@ -39,6 +40,8 @@ pub record LimitedTiles (s : List ℕ) (p : Place) (old : TileInfo) (a : TileArg
   pub limited : Limited m (parseTileInfo s p old a) z
   -- an accepted layout has all that demand 3 says of one
   pub accepted : isRefusal (z .answer) ≡ false → AcceptedLayout s p a (z .info)
+  -- accepted, zeros stand behind the closing entries; refused, the record given comes back
+  pub over : ReadOver old z
   -- with the wall's limit every answer is the wall's
   pub as-on-wall : m ≡ wall → z ≡ parseTileInfo s p old a
 
@@ -52,5 +55,7 @@ pub record LimitedFrame (s : List ℕ) (p : Place) (h : FrameHeader) (q : SeqLay
   pub limited : Limited m (frameTiles (parseTileInfoFrmhdr s p h q)) (frameTiles z)
   -- an accepted layout that is read fresh has all that demand 3 says of one
   pub accepted : isRefusal (z .answer) ≡ false → FreshAccepted s p h q (z .hdr .tiling)
+  -- accepted, read fresh or reused, zeros stand behind the closing entries; refused, the layout given comes back
+  pub over : ReadOver (h .tiling) (frameTiles z)
   -- with the wall's limit every answer is the wall's
   pub as-on-wall : m ≡ wall → z ≡ parseTileInfoFrmhdr s p h q

@@ -11,6 +11,7 @@ use Rattle.getbits.specs.Chain.{pick}
 use Rattle.program.specs.Input.{byteAt, twoAt, isInput}
 use Rattle.superblocks.specs.Counts.{multiplierOf}
 use Rattle.tile_layout.specs.declared.TileArgs.{TileArgs}
+use Rattle.tile_layout.specs.declared.TileInfo.{TileInfo}
 use Rattle.tile_layout.specs.declared.TileRead.{TileRead}
 use Rattle.tile_layout.specs.Limits.{noTileInfo, argsOf}
 use Rattle.tile_layout.specs.Layout.{parseTileInfo}
@@ -28,9 +29,13 @@ requestArgs s =
 abbrev pub isTileRequest : List ℕ → Bool
 isTileRequest s = leb 8 (length s) && isInput s
 
--- then tiling bits, read over the zero layout; another input is 4
-unfoldable pub tileRequest : List ℕ → TileRead
-tileRequest s =
+-- a request and then tiling bits, which are read over the layout `old`; another input is 4, and `old` comes back
+unfoldable pub requestOver : TileInfo → List ℕ → TileRead
+requestOver old s =
     pick (isTileRequest s)
-    (parseTileInfo (drop 8 s) (placeAt 0 false) noTileInfo (requestArgs s))
-    (record { answer = WrongArguments; info = noTileInfo; next = placeAt 0 false })
+    (parseTileInfo (drop 8 s) (placeAt 0 false) old (requestArgs s))
+    (record { answer = WrongArguments; info = old; next = placeAt 0 false })
+
+-- the same over the zero layout
+unfoldable pub tileRequest : List ℕ → TileRead
+tileRequest s = requestOver noTileInfo s

@@ -3,7 +3,7 @@ use mathlib.Core.Bool.{Bool, true, false}
 use mathlib.Core.Path.{_≡_, refl, sym}
 use native.Mathlib.Omega.{arith}
 use borrow.Author.Tests.{le-leb}
-use Rattle.getbits.proofs.Chain.{taken}
+use Rattle.getbits.proofs.Chain.{both-hold, taken}
 use Rattle.tile_layout.specs.declared.TileArgs.{TileArgs}
 use Rattle.tile_layout.specs.declared.TileInfo.{TileInfo}
 use Rattle.layout_bits.specs.Rows.{bytesOf}
@@ -11,13 +11,12 @@ use Rattle.layout_bits.specs.Bits.{layoutBits}
 use Rattle.layout_row.specs.Row.{rowOf}
 use Rattle.layout_writing.specs.Write.{fresh, again, readsAs}
 use Rattle.layout_writing.specs.Promises.{SomeBits}
-use Rattle.layout_writing.proofs.Same.{all}
 use Rattle.layout_writing.proofs.Reading.{domained, few, short, start, stands, reads-on, some-bits, own}
 
 module _ (a : TileArgs) (t : TileInfo) (b : SomeBits a t) where
   pub row-known : rowOf a t ≡ layoutBits a t
   unfolding rowOf
-  row-known = taken _ _ _ (all (all (domained a t b) (le-leb _ _ (few a t b .0))) (le-leb _ _ (few a t b .1)))
+  row-known = taken _ _ _ (both-hold (both-hold (domained a t b) (le-leb _ _ (few a t b .0))) (le-leb _ _ (few a t b .1)))
 
 -- two answers that imply each other are the same
 same-bool : (a b : Bool) → (a ≡ true → b ≡ true) → (b ≡ true → a ≡ true) → a ≡ b

@@ -1,7 +1,7 @@
 // A tile layout written as bits into a lent buffer.
 ghost use mathlib.Core.List.{_++_};
 ghost use mathlib.Core.Path.{_≡_};
-ghost use Prim.Native.Nat.{_+_, _≤_};
+ghost use Prim.Native.Nat.{_≤_};
 ghost use lib.ListN.{length, take, drop};
 ghost use Rattle.tile_layout.specs.Limits.{argsOf};
 ghost use Rattle.layout_writing.specs.Write.{sameFlag, sameList, sameNumbers, sameLayout, readsAs, refusal, writeTileInfo};
@@ -15,7 +15,6 @@ use tile_layout::TileInfo;
 use tile_layout::TileRead;
 use tile_layout::in_domain;
 use tile_layout::no_tile_info;
-use tile_layout::start_at;
 use tile_layout::tile_args;
 
 fn same_flag(a: bool, b: bool) -> bool
@@ -24,14 +23,13 @@ fn same_flag(a: bool, b: bool) -> bool
     if a { b } else { !b }
 }
 
-// Are the first n starts and the closing one the same?
-fn same_starts(a: &[u16], b: &[u16], n: u8) -> bool
+fn same_starts(a: &[u16], b: &[u16]) -> bool
     requires { ⌜ length (now a) ≡ length (now b) ⌝ }
-    ensures { λ r. ⌜ r ≡ sameList (take (n + 1) (now (a .entry))) (take (n + 1) (now (b .entry))) ⌝ }
+    ensures { λ r. ⌜ r ≡ sameList (now (a .entry)) (now (b .entry)) ⌝ }
 {
     let mut i: usize = 0;
-    while i <= n as usize {
-        if start_at(a, i) != start_at(b, i) {
+    while i < a.len() {
+        if a[i] != b[i] {
             return false;
         }
         i += 1;
@@ -61,8 +59,8 @@ fn same_layout(t: TileInfo, u: TileInfo) -> bool
     let u_rows = u.row_start_sb;
     same_flag(t.uniform, u.uniform)
         & same_numbers(t, u)
-        & same_starts(&t_cols, &u_cols, t.cols)
-        & same_starts(&t_rows, &u_rows, t.rows)
+        & same_starts(&t_cols, &u_cols)
+        & same_starts(&t_rows, &u_rows)
 }
 
 // Is a reading accepted without error, and gives t?

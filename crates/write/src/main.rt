@@ -5,11 +5,10 @@ ghost use lib.ListN.{length, take};
 ghost use Rattle.io.specs.Counts.{Counts};
 ghost use Rattle.text.specs.Text.{Put, row};
 ghost use Rattle.write.specs.Print.{bitsText, writtenText, requestText, writeText};
-ghost use Rattle.write.specs.Request.{startsAt, givenLayout, writeRequest};
+ghost use Rattle.write.specs.Request.{writeRequest};
 use answers::is_refusal;
 use answers::number;
 use layout_writing::Written;
-use lent::is_set;
 use libc::STDIN_FILENO;
 use libc::STDOUT_FILENO;
 use program::put_refused;
@@ -18,44 +17,10 @@ use program::two_at;
 use text::put_byte;
 use text::put_item;
 use text::put_line;
-use tile_layout::TileInfo;
+use tile_request::given_layout;
 use tile_request::multiplier;
 use tile_request::samples;
 use tile_write::write_tile_info;
-
-fn starts_at(s: &[u8], i: usize) -> [u16; 65]
-    requires { ⌜ i + 130 ≤ length (now s) ⌝ }
-    ensures { λ r. ⌜ r ≡ startsAt (now (s .entry)) i ⌝ }
-{
-    let mut starts = [0u16; 65];
-    let mut k: usize = 0;
-    while k < 65 {
-        starts[k] = two_at(s, i + 2 * k) as u16;
-        k += 1;
-    }
-    starts
-}
-
-fn given_layout(s: &[u8]) -> TileInfo
-    requires { ⌜ length (now s) ≡ 279 ⌝ }
-    ensures { λ r. ⌜ r ≡ givenLayout (now (s .entry)) ⌝ }
-{
-    let col_start_sb = starts_at(s, 17);
-    let row_start_sb = starts_at(s, 147);
-    TileInfo {
-        uniform: is_set(s[8]),
-        min_log2_cols: s[9],
-        max_log2_cols: s[10],
-        log2_cols: s[11],
-        cols: s[12],
-        min_log2_rows: s[13],
-        max_log2_rows: s[14],
-        log2_rows: s[15],
-        rows: s[16],
-        col_start_sb,
-        row_start_sb,
-    }
-}
 
 // The first n bytes with one blank between.
 fn put_bytes(out: &mut [u8], at: usize, bytes: &[u8], n: usize) -> usize
@@ -86,7 +51,7 @@ fn write_request(s: &[u8], buffer: &mut [u8]) -> Written
     requires { ⌜ length (now s) ≡ 279 ⌝ }
     ensures { λ r. ⌜ (r, now (buffer .exit)) ≡ writeRequest (now (s .entry)) (now (buffer .entry)) ⌝ }
 {
-    let t = given_layout(s);
+    let t = given_layout(&s[8..]);
     let sb128 = s[4];
     let seq_sb128 = s[5];
     let sbmul = multiplier(sb128, seq_sb128);

@@ -131,7 +131,7 @@ pub struct Outcome {
     pub answer: i64,
     pub place: Place,
     pub record: Vec<i64>,
-    /// The rule of document 01 by which the Rust's answer is not the one expected.
+    /// The rule by which the Rust's answer is not the one expected; of several the last one.
     pub rule: Option<Rule>,
 }
 

@@ -260,7 +260,8 @@ fn seg_args() -> Vec<Vec<i64>> {
         .collect()
 }
 
-/// Frames of each type with a sequence layout of two even columns, in each code and each way of tiling.
+/// Frames of each type with a sequence layout of two even columns, in each code and each way of tiling. Old numbers stand behind
+/// the layout's closing starts.
 fn frame_args() -> Vec<Vec<i64>> {
     let mut list = Vec::new();
     for frame_type in 0..4 {
@@ -270,10 +271,10 @@ fn frame_args() -> Vec<Vec<i64>> {
                 let mut args = vec![frame_type, 3 * side, side + 1, 7];
                 args.extend(old_record());
                 args.extend([code, 4 * side, 2 * side, 4, 1, present]);
-                let mut layout = vec![0; TILE];
+                let mut layout = old_record();
                 layout[..9].copy_from_slice(&[1, 0, 2, 1, 2, 0, 1, 0, 1]);
                 layout[9..12].copy_from_slice(&[0, 2, 4]);
-                layout[75] = 2;
+                layout[74..76].copy_from_slice(&[0, 2]);
                 args.extend(layout);
                 list.push(args);
             }

@@ -114,6 +114,14 @@ impl Kind {
         ) || self.is_limited()
     }
 
+    /// Whether a layout is read, which stands at the end of the record.
+    pub fn reads_layout(self) -> bool {
+        matches!(
+            self,
+            Self::ParseTileInfo | Self::ParseSeqHdr | Self::ParseTileInfoFrmhdr
+        ) || self.is_limited()
+    }
+
     /// Whether the last two arguments are a limit: the most columns, the most rows.
     pub fn is_limited(self) -> bool {
         matches!(

@@ -36,12 +36,15 @@ pub mod shrink;
 pub mod stored;
 #[cfg(feature = "ours")]
 pub mod tally;
-mod theirs;
+pub mod theirs;
 #[cfg(feature = "ours")]
 pub mod wrong;
 
-// The rules that stand beside the Rust's reading, from the files that the build script names: of a limit, of rectangles, and of
-// writing.
+// The rules that stand beside the Rust's reading, from the files that the build script names: of old starts, of a limit, of
+// rectangles, and of writing.
+mod cleared {
+    include!(env!("CLEARED_RULE"));
+}
 pub mod within {
     include!(env!("WITHIN_RULE"));
 }

@@ -3,7 +3,7 @@
 use crate::callers;
 use crate::case::{Case, Outcome, Place};
 use crate::kind::Kind;
-use crate::records::{Numbers, SEG, TILE, from::ours as from, trimmed};
+use crate::records::{Numbers, SEG, TILE, from::ours as from};
 use crate::theirs::fresh_layout;
 use mubanlig::{Error, GetBits, TileLimit};
 
@@ -153,7 +153,7 @@ fn write_tile_info(a: &[i64], out: &mut Outcome) {
         Ok(_) => {
             if let Some((read, used)) = fresh_layout(b, &buffer) {
                 out.record.push(used as i64);
-                out.record.extend(trimmed(&read));
+                out.record.extend(read);
             }
         }
         Err(refusal) => out.answer = i64::from(refusal.number()),

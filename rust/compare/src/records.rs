@@ -13,15 +13,6 @@ pub const HEADER: usize = 285;
 /// The numbers of a `FilmGrainData`.
 pub const GRAIN: usize = 186;
 
-/// The numbers of a layout up to and with its closing starts, the flag as 0 or 1. Only for counts of at most 64.
-pub fn trimmed(t: &[i64]) -> Vec<i64> {
-    let (cols, rows) = (t[4] as usize, t[8] as usize);
-    let mut row = vec![i64::from(t[0] != 0)];
-    row.extend(&t[1..=9 + cols]);
-    row.extend(&t[74..=74 + rows]);
-    row
-}
-
 /// A field as numbers.
 pub trait Numbers {
     fn numbers(&self, out: &mut Vec<i64>);

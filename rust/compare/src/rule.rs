@@ -18,10 +18,12 @@ pub enum Rule {
     TooMany,
     /// A layout is written, refused with 8 if no bits read as it. The Rust writes none.
     Writing,
+    /// Accepted: zeros stand behind the closing starts. The Rust leaves what was there.
+    Cleared,
 }
 
 impl Rule {
-    pub const ALL: [Self; 8] = [
+    pub const ALL: [Self; 9] = [
         Self::Limit,
         Self::PastEnd,
         Self::Domain,
@@ -30,6 +32,7 @@ impl Rule {
         Self::Short,
         Self::TooMany,
         Self::Writing,
+        Self::Cleared,
     ];
 
     pub fn sentence(self) -> &'static str {
@@ -46,11 +49,17 @@ impl Rule {
             Self::Writing => {
                 "a layout's bits are those that the Rust reads as it, 8 if there are none, as #106 says"
             }
+            Self::Cleared => {
+                "accepted: zeros stand behind the closing starts, where the Rust leaves what was there"
+            }
         }
     }
 
     /// Whether the whole answer is document 01's, whatever the Rust answers.
     pub fn decides(self) -> bool {
-        !matches!(self, Self::PastEnd | Self::WholeRecord | Self::TooMany)
+        !matches!(
+            self,
+            Self::PastEnd | Self::WholeRecord | Self::TooMany | Self::Cleared
+        )
     }
 }

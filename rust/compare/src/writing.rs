@@ -1,9 +1,9 @@
-// A layout written as bits: the rule of request #106. The build script includes this file, or the copy of it that stands beside the Rust's files, which is
-// how a wrong version of it is made.
+// A layout written as bits: the rule of request #106, with all starts of the record as #107 has it. The build script includes this file, or the copy of it
+// that stands beside the Rust's files, which is how a wrong version of it is made.
 
 use crate::by_rule::in_domain;
 use crate::case::{Case, Outcome};
-use crate::records::{TILE, trimmed};
+use crate::records::TILE;
 use crate::rule::Rule;
 use crate::theirs::fresh_layout;
 
@@ -27,7 +27,8 @@ pub fn write(case: &Case, out: &mut Outcome) {
         Ok(row) => {
             put(&row, &mut out.record);
             out.record.push(row.len() as i64);
-            out.record.extend(trimmed(&case.args));
+            out.record.push(i64::from(case.args[0] != 0));
+            out.record.extend(&case.args[1..TILE]);
         }
         Err(refusal) => out.answer = refusal,
     }
@@ -67,13 +68,12 @@ fn reads_as(row: &[bool], t: &[i64], b: &[i64]) -> bool {
     fresh_layout(b, &packed(row)).is_some_and(|(read, _)| same(&read, t))
 }
 
-/// Whether what was read is the record, up to and with its closing starts.
+/// Whether what was read is the record, all of it. Zeros stand behind the closing starts of what was read.
 fn same(read: &[i64], t: &[i64]) -> bool {
-    let (cols, rows) = (read[4] as usize, read[8] as usize);
     (read[0] != 0) == (t[0] != 0)
         && read[1..9] == t[1..9]
-        && read[9..=9 + cols] == t[9..=9 + cols]
-        && read[74..=74 + rows] == t[74..=74 + rows]
+        && read[9..74] == t[9..74]
+        && read[74..] == t[74..]
 }
 
 /// Bytes of eight bits, the last one filled up with zeros.

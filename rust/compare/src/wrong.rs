@@ -1,5 +1,5 @@
-//! Wrong versions of the Rust and of the rules of a limit, of rectangles and of writing, one line each, and how many stored
-//! answers notice each of them.
+//! Wrong versions of the Rust and of the rules of old starts, of a limit, of rectangles and of writing, one line each, and how
+//! many stored answers notice each of them.
 
 use crate::rebuild;
 use std::fmt::Write;
@@ -13,11 +13,12 @@ use std::{fs, thread};
 const VERSIONS: &str = include_str!("../wrong.tsv");
 
 /// The Rust's files that the oracle is made of, and the rules, which are taken from beside them where they stand there.
-const FILES: [&str; 7] = [
+const FILES: [&str; 8] = [
     "getbits.rs",
     "intops.rs",
     "headers.rs",
     "obu.rs",
+    "cleared.rs",
     "within.rs",
     "rectangles.rs",
     "writing.rs",
@@ -26,6 +27,7 @@ const FILES: [&str; 7] = [
 /// Where the right version of a file stands.
 fn right(file: &str) -> PathBuf {
     match file {
+        "cleared.rs" => PathBuf::from(env!("CLEARED_RULE")),
         "within.rs" => PathBuf::from(env!("WITHIN_RULE")),
         "rectangles.rs" => PathBuf::from(env!("RECTANGLES_RULE")),
         "writing.rs" => PathBuf::from(env!("WRITING_RULE")),

@@ -5,20 +5,21 @@ use compare::case::{Case, Outcome, Place};
 use compare::kind::Kind;
 use compare::make::grain::grain;
 use compare::make::header::header;
-use compare::make::layouts::PAIRS;
+use compare::make::layouts::{PAIRS, places_behind};
 use compare::make::make;
 use compare::make::within::{PANEL, set_limit};
 use compare::options::Options;
-use compare::records::Numbers;
+use compare::records::TILE;
 use compare::report;
 use compare::rng::Rng;
 use compare::rule::Rule;
 use compare::rules;
 use compare::run::{Plan, differs, run};
 use compare::shrink::shrink;
+use compare::theirs::fresh_layout;
 use compare::within::tiles;
 use oracle::Reader;
-use oracle::headers::{PixelLayout, TileInfo};
+use oracle::headers::PixelLayout;
 use std::collections::HashMap;
 
 fn plan(kind: Kind, seed: u64) -> Plan {
@@ -118,7 +119,7 @@ fn an_added_limit_is_a_known_difference() {
 
 /// A layout of 17 columns and 9 rows without data, over a record full of threes, within a limit.
 fn limited(cols: i64, rows: i64) -> (Case, Outcome) {
-    let mut args = vec![3; 139];
+    let mut args = vec![3; TILE];
     args.extend([1, 0, 0, 17 * 64, 9 * 64, 0, 0, cols, rows]);
     let case = Case {
         args,
@@ -132,7 +133,7 @@ fn limited(cols: i64, rows: i64) -> (Case, Outcome) {
 #[test]
 fn a_limit_is_a_known_difference() {
     let (_, wall) = limited(64, 64);
-    assert_eq!((wall.answer, wall.rule), (0, None));
+    assert_eq!((wall.answer, wall.rule), (0, Some(Rule::Cleared)));
     assert_eq!((wall.record[4], wall.record[8]), (17, 9));
     for (cols, rows, many) in [
         (17, 9, false),
@@ -151,6 +152,130 @@ fn a_limit_is_a_known_difference() {
         } else {
             assert!(within.agrees(&wall));
         }
+    }
+}
+
+/// A frame of three superblocks by two, of a code and a type, over a record full of threes, with a sequence's layout of two columns
+/// and one row that is full of fives behind its closing starts.
+fn framed(code: i64, frame_type: i64, present: i64) -> (Case, Outcome) {
+    let side = 64 << code;
+    let mut args = vec![frame_type, 3 * side, 2 * side, 3];
+    args.extend([3; TILE]);
+    args.extend([code, 3 * side, 2 * side, 0, 0, present]);
+    let mut layout = vec![5; TILE];
+    layout[..9].copy_from_slice(&[1, 0, 2, 1, 2, 9, 1, 0, 1]);
+    layout[9..12].copy_from_slice(&[0, 2, 3]);
+    layout[74..76].copy_from_slice(&[0, 2]);
+    args.extend(layout);
+    let case = Case {
+        data: vec![0; 60],
+        args,
+        ..Case::of(Kind::ParseTileInfoFrmhdr)
+    };
+    let mut outcome = Outcome::default();
+    rules::expected(&case, &mut outcome);
+    (case, outcome)
+}
+
+/// Read or reused, with either multiplier: of the starts up to the closing ones the Rust's, and zeros behind them.
+#[test]
+fn zeros_behind_the_closing_starts_are_a_known_difference() {
+    let (_, fresh) = limited(64, 64);
+    let expected: Vec<i64> = (0..=17).chain([0; 47]).collect();
+    assert_eq!(fresh.record[9..74], expected);
+    assert_eq!(fresh.record[5], 3); // no start: it stays
+    for (code, frame_type, present, cols, least) in [
+        (0, 1, 1, &[0, 2, 3][..], 9),
+        (2, 1, 1, &[0, 2, 3], 9),
+        (2, 0, 1, &[0, 4, 6], 9),
+        (1, 0, 0, &[0, 1, 2, 3], 3),
+    ] {
+        let (_, outcome) = framed(code, frame_type, present);
+        assert_eq!((outcome.answer, outcome.rule), (0, Some(Rule::Cleared)));
+        let t = &outcome.record[1..];
+        assert_eq!((t[5], &t[9..9 + cols.len()]), (least, cols));
+        let mut behind = places_behind(t).into_iter().flatten();
+        assert!(behind.all(|at| t[at] == 0), "{t:?}");
+    }
+    // Without an old start it is the Rust's reading and no more.
+    let (mut case, _) = framed(0, 1, 1);
+    let seq = 4 + TILE + 6;
+    for at in places_behind(&case.args[seq..]).into_iter().flatten() {
+        case.args[seq + at] = 0;
+    }
+    let mut outcome = Outcome::default();
+    rules::expected(&case, &mut outcome);
+    assert_eq!((outcome.answer, outcome.rule), (0, None));
+}
+
+/// 2, 4, 5 and 6: the record given, with its old starts.
+#[test]
+fn a_refusal_keeps_the_old_starts() {
+    let given = [3; TILE];
+    let (many, _) = limited(16, 9);
+    let change = |at: usize, number: i64| {
+        let mut case = many.clone();
+        case.args[TILE + at] = number;
+        case
+    };
+    let short = Case {
+        lent: vec![9, 64, 65],
+        ..many.clone()
+    };
+    for (case, answer) in [
+        (change(3, 65 * 64), 2),
+        (change(5, 32), 4),
+        (short, 5),
+        (many.clone(), 6),
+    ] {
+        let mut outcome = Outcome::default();
+        rules::expected(&case, &mut outcome);
+        assert_eq!((outcome.answer, &outcome.record[..]), (answer, &given[..]));
+    }
+}
+
+/// Layouts that are cleared, read and reused, uniform and not, with either multiplier; and refusals of records with old starts.
+#[test]
+fn old_starts_are_made() {
+    for kind in [
+        Kind::ParseTileInfo,
+        Kind::ParseTileInfoFrmhdr,
+        Kind::ParseTileInfoWithin,
+        Kind::ParseTileInfoFrmhdrWithin,
+    ] {
+        let mut rng = Rng::new(7);
+        let mut case = Case::of(kind);
+        let mut outcome = Outcome::default();
+        // By the flag and by whether the multiplier is 2.
+        let [mut read, mut reused] = [[[0; 2]; 2]; 2];
+        let mut refused = [0; 7];
+        for _ in 0..20_000 {
+            make(&mut rng, &mut case, &mut outcome);
+            rules::expected(&case, &mut outcome);
+            let (code, t) = outcome.record.split_at(outcome.record.len() - TILE);
+            if outcome.answer != 0 {
+                refused[outcome.answer as usize] += u32::from(t[73] != 0 || t[138] != 0);
+            } else if outcome.rule == Some(Rule::Cleared) {
+                let (doubled, is_reused) = if code.is_empty() {
+                    (case.args[TILE] == 2, false)
+                } else {
+                    let seq = &case.args[4 + TILE..];
+                    (code[0] != seq[0], t[..9] == seq[6..15])
+                };
+                let seen = if is_reused { &mut reused } else { &mut read };
+                seen[t[0] as usize][usize::from(doubled)] += 1;
+            }
+        }
+        let name = kind.name();
+        assert!(read.iter().flatten().all(|&n| n > 200), "{name}: {read:?}");
+        let is_frame = kind.full_lengths().len() == 6;
+        let enough = |&n: &u32| if is_frame { n > 40 } else { n == 0 };
+        assert!(reused.iter().flatten().all(enough), "{name}: {reused:?}");
+        assert!(refused[2] > 600 && refused[4] > 100, "{name}: {refused:?}");
+        assert!(
+            refused[6] > 3000 || !kind.is_limited(),
+            "{name}: {refused:?}"
+        );
     }
 }
 
@@ -183,20 +308,6 @@ fn the_edges_of_limits_are_made() {
         let least = seen.iter().flatten().min();
         assert!(least > Some(&300), "{}: {seen:?}", kind.name());
     }
-}
-
-/// The layout that two bytes read as over the zero record, up to and with its closing starts, and the bits used, if it is
-/// accepted without error.
-fn read_fresh(b: &[i64; 7], data: [u8; 2]) -> Option<(Vec<i64>, usize)> {
-    let mut t = TileInfo::default();
-    let mut gb = Reader::new(&data);
-    let [sbmul, w, h] = [b[0], b[3], b[4]].map(|n| n as i32);
-    let [sb128, seq_sb128, level, tier] = [b[1], b[2], b[5], b[6]].map(|n| n as u8);
-    let read = gb.parse_tile_info(&mut t, sbmul, sb128, seq_sb128, w, h, level, tier);
-    let (byte, used, error) = gb.place();
-    let mut row = Vec::new();
-    t.numbers(&mut row);
-    (read.is_ok() && !error).then_some((row, 8 * byte + used as usize))
 }
 
 /// The rule's answer for a layout and a buffer of the bytes FF 00, and the count of bits and the bytes after it.
@@ -237,7 +348,7 @@ fn the_rule_of_writing_finds_all_bits_that_there_are() {
         ];
         let mut rows = HashMap::new();
         for data in 0..=u16::MAX {
-            if let Some((t, used)) = read_fresh(&b, data.to_be_bytes()) {
+            if let Some((t, used)) = fresh_layout(&b, &data.to_be_bytes()) {
                 let bits = data >> (16 - used) << (16 - used);
                 assert_eq!(*rows.entry(t).or_insert((bits, used)), (bits, used));
             }
@@ -246,8 +357,7 @@ fn the_rule_of_writing_finds_all_bits_that_there_are() {
             let [high, low] = bits.to_be_bytes().map(i64::from);
             let low = if used > 8 { low } else { 0 };
             assert_eq!(written(t, &b), (0, vec![used as i64, high, low]));
-            let starts = [9 + t[4] as usize, 74 + t[8] as usize];
-            for at in (0..=starts[0]).chain(74..=starts[1]) {
+            for at in 0..TILE {
                 for change in [-1, 1] {
                     let mut other = t.clone();
                     other[at] += change;
@@ -256,7 +366,7 @@ fn the_rule_of_writing_finds_all_bits_that_there_are() {
                         continue;
                     }
                     let answer = written(&other, &b).0;
-                    let known = rows.keys().any(|row| same_layout(row, &other));
+                    let known = rows.contains_key(&other);
                     assert_eq!(answer, if known { 0 } else { 8 }, "{b:?} {other:?}");
                     refused += u32::from(!known);
                 }
@@ -266,14 +376,8 @@ fn the_rule_of_writing_finds_all_bits_that_there_are() {
     assert!(refused > 1000, "{refused} refused");
 }
 
-/// Up to and with the closing starts of the first.
-fn same_layout(a: &[i64], b: &[i64]) -> bool {
-    let (cols, rows) = (9 + a[4] as usize, 74 + a[8] as usize);
-    a[..=cols] == b[..=cols] && a[74..=rows] == b[74..=rows]
-}
-
-/// Layouts of both kinds in each pair, with few tiles and many, with old starts behind the closing ones, and each answer. The bits
-/// that a layout was read from are the rule's own.
+/// Layouts of both kinds in each pair, with few tiles and many, and each answer; 8 also for a number behind a closing start alone,
+/// the first there and the last. The bits that a layout was read from are the rule's own.
 #[test]
 fn layouts_to_write_are_of_every_sort() {
     let mut rng = Rng::new(7);
@@ -281,7 +385,8 @@ fn layouts_to_write_are_of_every_sort() {
     let [mut outcome, mut own] = [Outcome::default(), Outcome::default()];
     let mut answers = [0; 9];
     let mut accepted = [[0; 4]; 2];
-    let (mut many, mut old, mut read) = (0, 0, 0);
+    let (mut many, mut read) = (0, 0);
+    let mut behind = [[0; 2]; 2];
     for _ in 0..20_000 {
         make(&mut rng, &mut case, &mut outcome);
         rules::expected(&case, &mut outcome);
@@ -290,12 +395,27 @@ fn layouts_to_write_are_of_every_sort() {
         case.data.clear();
         rules::expected(&case, &mut own);
         assert!(outcome.agrees(&own), "{case:?}");
+        let a = &mut case.args;
         if outcome.answer == 0 {
-            let a = &case.args;
             let pair = PAIRS.iter().position(|pair| a[139..142] == pair[..]);
             accepted[a[0] as usize][pair.unwrap()] += 1;
             many += u32::from(a[4] > 60 && a[0] == 0) + u32::from(a[8] > 60 && a[0] == 0);
-            old += u32::from(a[4] < 64 && a[73] != 0);
+        } else if outcome.answer == 8 && a[4] <= 64 && a[8] <= 64 {
+            let places = places_behind(a);
+            let old: Vec<usize> = places
+                .iter()
+                .cloned()
+                .flatten()
+                .filter(|&at| a[at] != 0)
+                .collect();
+            for (places, behind) in places.into_iter().zip(&mut behind) {
+                if old == [places.start] || old == [places.end - 1] {
+                    a[old[0]] = 0;
+                    rules::expected(&case, &mut own);
+                    behind[usize::from(old != [places.start])] += u32::from(own.answer != 8);
+                    break;
+                }
+            }
         }
     }
     assert!(
@@ -303,10 +423,8 @@ fn layouts_to_write_are_of_every_sort() {
         "{answers:?}"
     );
     assert!(accepted.iter().flatten().all(|&n| n > 500), "{accepted:?}");
-    assert!(
-        many > 300 && old > 3000 && read > 3000,
-        "{many} {old} {read}"
-    );
+    assert!(many > 300 && read > 3000, "{many} {read}");
+    assert!(behind.iter().flatten().all(|&n| n > 100), "{behind:?}");
 }
 
 #[test]

@@ -34,7 +34,7 @@ const SIZES: Place = Place {
     behind: "let z = read_size(s, next, total.minus(sbx), limit);",
 };
 
-/// In the loop over the starts of a reused layout: `starts` are the sequence's and `at` becomes the frame's.
+/// In the loop over the starts of a reused layout: `starts` are the sequence's and `at` are the frame's.
 const DOUBLED: Place = Place {
     krate: "frame_hdr",
     file: "reuse.rt",
@@ -45,7 +45,7 @@ const DOUBLED: Place = Place {
 const CLOSED: Place = Place {
     krate: "frame_hdr",
     file: "reuse.rt",
-    behind: "put_start(&mut at, tiles, closing);",
+    behind: "put_start(&mut at, tiles, closing_entry(starts, pair, tiles, closing));",
 };
 
 /// Where the frame's counts are compared with the sequence's.

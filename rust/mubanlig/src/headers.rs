@@ -65,8 +65,9 @@ pub struct SegmentationDataSet {
 
 /// How a picture is cut into tiles.
 ///
-/// Only the first `cols` + 1 column starts and `rows` + 1 row starts count. A short list written over a long one leaves
-/// old numbers behind it: [`col_starts`](Self::col_starts) and [`row_starts`](Self::row_starts) leave them out.
+/// The first `cols` + 1 column starts and the first `rows` + 1 row starts tell the tiles. Behind them stand zeros in every
+/// layout that was accepted, whatever stood there before: [`col_starts`](Self::col_starts) and
+/// [`row_starts`](Self::row_starts) leave them out.
 ///
 /// The library reads and writes a record where it stands, so its first nine bytes are the nine fields in this order.
 #[derive(Debug, Clone, PartialEq)]
@@ -90,9 +91,9 @@ pub struct TileInfo {
     pub log2_rows: u8,
     /// The rows, 1 to 64.
     pub rows: u8,
-    /// Where each column starts, in superblocks; then the width.
+    /// Where each column starts, in superblocks; then the width, and zeros.
     pub col_start_sb: Box<[u16; MAX_TILE_COLS + 1]>,
-    /// Where each row starts, in superblocks; then the height.
+    /// Where each row starts, in superblocks; then the height, and zeros.
     pub row_start_sb: Box<[u16; MAX_TILE_ROWS + 1]>,
 }
 

@@ -27,7 +27,8 @@ pub fn parse_seg_info(seg: &mut SegmentationDataSet, gb: &mut GetBits, ext: bool
     [seg.delta_q_mask, seg.skip_mask, seg.globalmv_mask] = masks;
 }
 
-/// Reads a tile layout into `thdr`. A refusal leaves it as it was.
+/// Reads a tile layout into `thdr`. In an accepted one zeros stand behind the closing starts, whatever stood there before. A
+/// refusal leaves `thdr` as it was.
 ///
 /// `sbmul` is 2 for the frame's code 1 with the sequence's code 2, else 1 and both codes are equal. Width and height are
 /// 1 to 65,536, the level at most 31, the tier at most 1.
@@ -49,17 +50,42 @@ pub fn parse_seg_info(seg: &mut SegmentationDataSet, gb: &mut GetBits, ext: bool
 /// assert!(layout.uniform);
 /// assert_eq!(layout.col_starts(), [0, 2, 3, 4, 6]);
 ///
-/// // One of 256 by 128 that tells each size.
+/// // One of 256 by 128 that tells each size, over the longer one: no start of that is left.
 /// let mut gb = GetBits::new(&[0x28]);
 /// parse_tile_info(&mut layout, &mut gb, 1, 0, 0, 256, 128, 0, 0)?;
 /// assert_eq!((layout.cols, layout.rows), (3, 1));
 /// assert_eq!(layout.col_starts(), [0, 2, 3, 4]);
-/// assert_eq!(layout.col_start_sb[4], 6); // an old number behind the last start
+/// assert_eq!(layout.col_start_sb[4..], [0; 61]);
 ///
 /// // 65 superblocks without data: 64 columns of one don't suffice.
 /// let refusal = parse_tile_info(&mut layout, &mut GetBits::new(&[]), 1, 0, 0, 4160, 64, 0, 0);
 /// assert_eq!(refusal.unwrap_err().number(), 2);
 /// assert_eq!(layout.cols, 3);
+/// # Ok::<(), mubanlig::Error>(())
+/// ```
+///
+/// Over a record full of old numbers:
+///
+/// ```
+/// use mubanlig::{GetBits, TileInfo, parse_tile_info};
+///
+/// let mut layout = TileInfo::default();
+/// layout.min_log2_rows = 5;
+/// layout.col_start_sb.fill(1000);
+/// layout.row_start_sb.fill(1000);
+/// let old = layout.clone();
+///
+/// // Refused, the record comes back whole.
+/// assert!(parse_tile_info(&mut layout, &mut GetBits::new(&[]), 1, 0, 0, 4160, 64, 0, 0).is_err());
+/// assert_eq!(layout, old);
+///
+/// // Accepted, no old start is left. `min_log2_rows` is no start: a layout that is not uniform leaves it.
+/// parse_tile_info(&mut layout, &mut GetBits::new(&[0x28]), 1, 0, 0, 256, 128, 0, 0)?;
+/// assert_eq!(layout.col_start_sb[..4], [0, 2, 3, 4]);
+/// assert_eq!(layout.col_start_sb[4..], [0; 61]);
+/// assert_eq!(layout.row_start_sb[..2], [0, 2]);
+/// assert_eq!(layout.row_start_sb[2..], [0; 63]);
+/// assert_eq!(layout.min_log2_rows, 5);
 /// # Ok::<(), mubanlig::Error>(())
 /// ```
 #[allow(clippy::too_many_arguments)]
@@ -187,7 +213,8 @@ pub fn parse_seq_hdr(gb: &mut GetBits, strict: bool) -> Result<SequenceHeader, E
     ffi::parse_seq_hdr(data, position, error, strict)
 }
 
-/// Sets a frame's superblock code and its layout, which is the sequence's or is read. A refusal leaves `hdr` as it was.
+/// Sets a frame's superblock code and its layout, which is the sequence's or is read. Either way zeros stand behind the
+/// closing starts, also where the sequence's record has other numbers there. A refusal leaves `hdr` as it was.
 ///
 /// The reader's error isn't looked at: short data may be accepted with the error set.
 ///
@@ -218,6 +245,11 @@ pub fn parse_seq_hdr(gb: &mut GetBits, strict: bool) -> Result<SequenceHeader, E
 /// parse_tile_info_frmhdr(&mut hdr, &seqhdr, &mut GetBits::new(&[]))?;
 /// // Reused whole, though the frame has three superblocks.
 /// assert_eq!(hdr.tiling.t.col_starts(), [0, 2, 4]);
+///
+/// // A number that someone left behind the sequence's closing start is not handed on.
+/// seqhdr.tiling.t.col_start_sb[3] = 9;
+/// parse_tile_info_frmhdr(&mut hdr, &seqhdr, &mut GetBits::new(&[]))?;
+/// assert_eq!(hdr.tiling.t.col_start_sb[..5], [0, 2, 4, 0, 0]);
 /// # Ok::<(), mubanlig::Error>(())
 /// ```
 pub fn parse_tile_info_frmhdr(

@@ -11,11 +11,12 @@ pub const LAYOUT_BYTES: usize = 177;
 /// and answers how many bits they are. They stand most significant first and are padded with zero bits to a byte; bytes
 /// behind the last one stay. [`LAYOUT_BYTES`] are enough for every layout.
 ///
-/// Read over `TileInfo::default()`, the bits give this layout up to its closing starts, use just so many bits and set no error.
-/// Bits that were read so are written again as they were.
+/// Read over `TileInfo::default()`, the bits give just this layout, use just so many bits and set no error. Bits that were read
+/// so are written again as they were.
 ///
-/// All nine numbers of the layout count, and the starts up to and with the closing ones. Starts behind these don't. Two rows of
-/// bits can give the same tiles, so the layout's logarithms and its flag decide what is written.
+/// The whole record counts: its nine numbers and all 65 starts of the columns and of the rows, so zeros have to stand behind the
+/// closing ones, as in every layout that was read. Two rows of bits can give the same tiles, so the layout's logarithms and its
+/// flag decide what is written.
 ///
 /// A refusal leaves the buffer as it was.
 ///
@@ -45,11 +46,14 @@ pub const LAYOUT_BYTES: usize = 177;
 ///     assert_eq!(out[0], byte);
 /// }
 ///
-/// // Of no bits, and for too short a buffer.
+/// // For too short a buffer, and of no bits: another start, or a number behind the closing one.
 /// assert_eq!(write_tile_info(&layout, 2, 1, 2, 600, 128, 0, 0, &mut []), Err(Error::ShortBuffer));
-/// layout.col_start_sb[1] = 1;
-/// let refusal = write_tile_info(&layout, 2, 1, 2, 600, 128, 0, 0, &mut []);
-/// assert_eq!(refusal, Err(Error::NoSuchLayout));
+/// for at in [1, 4] {
+///     let mut none = layout.clone();
+///     none.col_start_sb[at] = 1;
+///     let refusal = write_tile_info(&none, 2, 1, 2, 600, 128, 0, 0, &mut []);
+///     assert_eq!(refusal, Err(Error::NoSuchLayout));
+/// }
 /// # Ok::<(), mubanlig::Error>(())
 /// ```
 #[allow(clippy::too_many_arguments)]

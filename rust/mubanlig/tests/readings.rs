@@ -64,6 +64,40 @@ fn a_refused_layout_is_left_as_it_was() {
     assert_eq!(t, given);
 }
 
+/// Over a record with an old number everywhere: no old start is left, of uniform layouts and of others, and of the numbers
+/// `min_log2_rows` only where it is not set.
+#[test]
+fn an_accepted_layout_has_no_old_start() {
+    for (pair, w, h, data, cols, rows, least) in [
+        ([0, 0], 256, 128, 0x28, &[0, 2, 3, 4][..], &[0, 2][..], 9),
+        ([0, 0], 330, 64, 0xE0, &[0, 2, 3, 4, 6], &[0, 1], 0),
+        ([1, 2], 600, 128, 0xC0, &[0, 2, 5], &[0, 1], 0),
+        ([0, 0], 1, 1, 0x00, &[0, 1], &[0, 1], 9),
+    ] {
+        let sbmul = if pair == [1, 2] { 2 } else { 1 };
+        let mut t = TileInfo {
+            min_log2_rows: 9,
+            col_start_sb: Box::new([77; 65]),
+            row_start_sb: Box::new([65_535; 65]),
+            ..Default::default()
+        };
+        let gb = &mut GetBits::new(std::slice::from_ref(&data));
+        parse_tile_info(&mut t, gb, sbmul, pair[0], pair[1], w, h, 0, 0).unwrap();
+        assert_eq!((t.col_starts(), t.row_starts()), (cols, rows));
+        assert!(t.col_start_sb[cols.len()..].iter().all(|&start| start == 0));
+        assert!(t.row_start_sb[rows.len()..].iter().all(|&start| start == 0));
+        assert_eq!(t.min_log2_rows, least);
+        let fresh = layout(pair, w, h, &[data]).0.unwrap();
+        assert_eq!(
+            t,
+            TileInfo {
+                min_log2_rows: least,
+                ..fresh
+            }
+        );
+    }
+}
+
 /// A layout of so many superblocks across and down without data, each a tile of its own, over a record with old numbers:
 /// within a limit, and as it was and is without one.
 fn limited(across: i32, down: i32, limit: TileLimit) -> [(Result<(), Error>, TileInfo, Place); 2] {
@@ -255,6 +289,75 @@ fn a_frame_reuses_the_layout_whole() {
     seqhdr.level = 32;
     let refused = parse_tile_info_frmhdr(&mut hdr, &seqhdr, &mut GetBits::new(&[]));
     assert_eq!(refused, Err(Error::WrongArguments));
+}
+
+/// A sequence's record with old numbers behind its closing starts, and a frame's that is full of them: reused with multiplier 1
+/// and with 2, read, and refused, without a limit and on a panel.
+#[test]
+fn a_frame_has_no_old_start() {
+    let full = |cols: &[u16], rows: &[u16], old: u16| {
+        let mut t = TileInfo {
+            uniform: true,
+            cols: 2,
+            rows: 1,
+            col_start_sb: Box::new([old; 65]),
+            row_start_sb: Box::new([old; 65]),
+            ..Default::default()
+        };
+        t.col_start_sb[..cols.len()].copy_from_slice(cols);
+        t.row_start_sb[..rows.len()].copy_from_slice(rows);
+        t
+    };
+    let mut seqhdr = SequenceHeader {
+        sb128: 2,
+        max_width: 1024,
+        max_height: 256,
+        ..Default::default()
+    };
+    seqhdr.tiling.t = full(&[0, 2, 4], &[0, 1], 65_535);
+    for (present, frame_type, level, cols) in [
+        (AdaptiveBoolean::On, FrameType::Inter, 0, &[0, 2, 4][..]),
+        (AdaptiveBoolean::On, FrameType::Key, 0, &[0, 4, 8]),
+        (AdaptiveBoolean::Off, FrameType::Inter, 0, &[0, 1, 2, 3, 4]),
+        (AdaptiveBoolean::On, FrameType::Key, 32, &[]),
+    ] {
+        seqhdr.tiling.present = present;
+        seqhdr.level = level;
+        let mut given = FrameHeader {
+            frame_type,
+            width: 1024,
+            height: 256,
+            sb128: 9,
+            ..Default::default()
+        };
+        given.tiling.t = full(&[], &[], 77);
+        let mut hdrs = [given.clone(), given.clone(), given.clone()];
+        let gb = || GetBits::new(&[0]);
+        let answers = [
+            parse_tile_info_frmhdr(&mut hdrs[0], &seqhdr, &mut gb()),
+            parse_tile_info_frmhdr_within(&mut hdrs[1], &seqhdr, &mut gb(), TileLimit::PANEL),
+            parse_tile_info_frmhdr_within(
+                &mut hdrs[2],
+                &seqhdr,
+                &mut gb(),
+                TileLimit { cols: 1, rows: 1 },
+            ),
+        ];
+        if level == 32 {
+            assert_eq!(answers, [Err(Error::WrongArguments); 3]);
+            assert_eq!(hdrs, [given.clone(), given.clone(), given]);
+            continue;
+        }
+        assert_eq!(answers, [Ok(()), Ok(()), Err(Error::TooManyTiles)]);
+        assert_eq!(hdrs[2], given);
+        for hdr in &hdrs[..2] {
+            let t = &hdr.tiling.t;
+            assert_eq!(t.col_starts(), cols);
+            assert!(t.col_start_sb[cols.len()..].iter().all(|&start| start == 0));
+            let behind = &t.row_start_sb[t.row_starts().len()..];
+            assert!(behind.iter().all(|&start| start == 0));
+        }
+    }
 }
 
 #[test]
@@ -642,7 +745,7 @@ fn a_layout_is_written_as_it_was_read() {
         ([0, 0], 4032, 4672, "1 0 0"),
         ([0, 0], 16_000, 16_000, "1 10 110"),
     ] {
-        let mut t = told(pair, w, h, row);
+        let t = told(pair, w, h, row);
         let count = row.replace(' ', "").len();
         let bytes = bits(row);
         for more in 0..3 {
@@ -651,11 +754,18 @@ fn a_layout_is_written_as_it_was_read() {
             let out = written(&t, pair, w, h, expected.len());
             assert_eq!(out, (Ok(count), expected), "{row}");
         }
-        // Starts behind the closing ones don't count.
-        let (cols, rows) = (usize::from(t.cols), usize::from(t.rows));
-        t.col_start_sb[cols + 1..].fill(7);
-        t.row_start_sb[rows + 1..].fill(65_535);
-        assert_eq!(written(&t, pair, w, h, bytes.len()), (Ok(count), bytes));
+        // No bits read as a record with a number behind a closing start: the first there, one between, or the last.
+        for at in [usize::from(t.cols) + 1, 40, 64] {
+            let mut old = t.clone();
+            old.col_start_sb[at] = 1;
+            let refused = (Err(Error::NoSuchLayout), vec![0xA5; bytes.len()]);
+            assert_eq!(written(&old, pair, w, h, bytes.len()), refused);
+        }
+        for at in [usize::from(t.rows) + 1, 40, 64] {
+            let mut old = t.clone();
+            old.row_start_sb[at] = 65_535;
+            assert_eq!(written(&old, pair, w, h, 0).0, Err(Error::NoSuchLayout));
+        }
     }
 }
 
@@ -719,10 +829,10 @@ fn logarithms_and_flag_decide_what_is_written() {
     assert_eq!(written(&t, [1, 2], 600, 128, 1), (Ok(5), vec![0x30]));
 }
 
-/// Each of the nine numbers, a start, and the closing ones.
+/// Each of the nine numbers, a start, the closing ones, and those behind them.
 #[test]
 fn no_bits_read_as_a_changed_layout() {
-    let changes: [fn(&mut TileInfo); 16] = [
+    let changes: [fn(&mut TileInfo); 20] = [
         |t| t.uniform ^= true,
         |t| t.min_log2_cols += 1,
         |t| t.max_log2_cols += 1,
@@ -739,6 +849,10 @@ fn no_bits_read_as_a_changed_layout() {
         |t| t.row_start_sb[0] = 1,
         |t| t.col_start_sb[3] += 1,
         |t| t.row_start_sb[1] += 1,
+        |t| t.col_start_sb[4] = 5,
+        |t| t.col_start_sb[64] = 1,
+        |t| t.row_start_sb[2] = 1,
+        |t| t.row_start_sb[64] = 65_535,
     ];
     for row in ["1111", "00110"] {
         for change in &changes[usize::from(row == "00110")..] {

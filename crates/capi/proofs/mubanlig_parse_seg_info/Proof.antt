@@ -5,9 +5,9 @@ use borrow.Author.Tests.{le-leb, lt-leb}
 use lib.Dec.{leb}
 use lib.ListN.{length}
 use Rattle.answers.specs.declared.Answer.the-variants.{Accepted}
-use Rattle.getbits.proofs.Chain.{through, taken, left}
+use Rattle.getbits.proofs.Chain.{through, taken, left, both-hold}
 use Rattle.capi.specs.Calls.{lentSegInfo}
-use Rattle.lent.proofs.Calls.{row, triple, first-fails, second-fails, both-hold}
+use Rattle.lent.proofs.Calls.{row, triple, first-fails, second-fails}
 use Rattle.capi.proofs.mubanlig_parse_seg_info.Statement.{statement}
 use Rattle.capi.proofs.mubanlig_parse_seg_info.Tie as tie
 
@@ -38,7 +38,7 @@ returns-3 c =
     let a = k .before .before .before .before .args in
     let x = r .parse-seg-info .result in
     let read = rw (p .place-of .ensures, i .seg-info-of .ensures, r .before .is-set .ensures) at (r .parse-seg-info .ensures) in
-    let room = both-hold _ _ (le-leb 16 (length (a .delta-q .now)) (k .before .if1 .left)) (le-leb 3 (length (a .masks .now)) (k .if2 .left)) in (
+    let room = both-hold (le-leb 16 (length (a .delta-q .now)) (k .before .if1 .left)) (le-leb 3 (length (a .masks .now)) (k .if2 .left)) in (
       triple (row Accepted (x .next) (a .error .now) refl (q .put-place .ensures)) (d .put-delta-q .ensures) (m .put-masks .ensures) ∙ sym (taken _ _ _ room ∙ through _ _ read),
       (λ h. absurd (h refl), λ h. absurd (h refl)),
     )

@@ -5,12 +5,12 @@ use borrow.Author.Needs.{needs}
 use borrow.Author.Tests.{le-leb, lt-leb, not-true, not-false}
 use lib.Dec.{leb}
 use lib.ListN.{length}
-use Rattle.getbits.proofs.Chain.{through, taken, left}
+use Rattle.getbits.proofs.Chain.{through, taken, left, both-hold}
 use Rattle.flat.specs.Layout.{Buffers, buffers, hasRoom}
 use Rattle.capi.specs.Calls.{lentHeader}
 use Rattle.lent.specs.Lent.{isSet, placeOf}
 use Rattle.seq_hdr.proofs.Refused.{Refused, header-refused}
-use Rattle.lent.proofs.Calls.{row, triple, first-fails, second-fails, both-hold}
+use Rattle.lent.proofs.Calls.{row, triple, first-fails, second-fails}
 use Rattle.capi.proofs.Left.{never-5, header-read, header-left}
 use Rattle.capi.proofs.mubanlig_parse_seq_hdr.Statement.{statement}
 use Rattle.capi.proofs.mubanlig_parse_seq_hdr.Tie as tie
@@ -52,7 +52,7 @@ returns-3 c =
     let read = rw (p .place-of .ensures, r .before .is-set .ensures) at (r .parse-seq-hdr .ensures .0) in
     let layout = rw (p .place-of .ensures) at (r .parse-seq-hdr .ensures .1) in
     let long = le-leb 146 (length (a .hdr .now)) (i .if1 .left) in
-    let room = both-hold _ _ long has in
+    let room = both-hold long has in
     let answer : Refused x = rw read (header-refused (a .s .now) (placeOf (a .position .now) (a .error .now)) (isSet (a .strict))) in
     let w = header-read x (c .number .result) (a .hdr .now) (given s) (c .number .ensures) answer long has (h .put-seq-hdr .ensures) (put .0) in (
       triple (row (x .answer) (x .next) (a .error .now) (c .number .ensures) (q .put-place .ensures)) (h .put-seq-hdr .ensures) (put .0) ∙ sym (taken _ _ _ room ∙ through _ _ read),

@@ -4,6 +4,8 @@ use mathlib.Core.Path.{_≡_, refl, sym, ap, _∙_}
 use borrow.Author.Needs.{needs}
 use borrow.Author.Tests.{not-true, not-false}
 use mir.Facts.{toZ-ofZ}
+use Rattle.answers.proofs.Numbers.{accepted-by-0}
+use Rattle.answers.specs.declared.Answer.the-variants.{ShortBuffer}
 use Rattle.getbits.proofs.Chain.{contrary, through, taken}
 use Rattle.getbits.specs.declared.Place.{Place}
 use Rattle.lent.specs.Lent.{placeOf}
@@ -13,7 +15,7 @@ use Rattle.tile_layout.specs.Limits.{argsOf, inDomain}
 use Rattle.tile_layout.specs.declared.TileArgs.{TileArgs}
 use Rattle.flat.specs.Layout.{Buffers, buffers, hasRoom, layoutIn}
 use Rattle.lent_tiles.specs.Calls.{handedTiles, lentTiles, lentTileInfo}
-use Rattle.lent_tiles.proofs.Left.{tiles-short, tiles-number, tiles-kept, demand3-left}
+use Rattle.lent_tiles.proofs.Left.{tiles-short, tiles-number, tiles-kept, cleared-left, demand3-left}
 use Rattle.capi.proofs.mubanlig_parse_tile_info.Statement.{statement}
 use Rattle.capi.proofs.mubanlig_parse_tile_info.Tie as tie
 
@@ -43,7 +45,7 @@ read k =
 demand : (k : tie.After-parse-tile-info) → inDomain (asked (start k)) ≡ true → Demand3 (start k .args .s .now) (place (start k)) (asked (start k)) (k .parse-tile-info .result)
 demand k =
     let s = start k in
-    rw (toZ-ofZ (s .fits .sbmul), toZ-ofZ (s .fits .w), toZ-ofZ (s .fits .h), k .before .before .before .before .before .place-of .ensures) at (k .parse-tile-info .ensures .1)
+    rw (toZ-ofZ (s .fits .sbmul), toZ-ofZ (s .fits .w), toZ-ofZ (s .fits .h), k .before .before .before .before .before .place-of .ensures) at (k .parse-tile-info .ensures .1 .0)
 
 -- what the definition says, once the layout is read
 meaning : (k : tie.After-parse-tile-info)
@@ -56,7 +58,7 @@ returns : tie.Need-returns
 returns c =
     let lacks = sym (c .before .has-room .ensures) ∙ not-true (c .before .has-room .result) (c .if1 .taken) in
     let s = c .before .before .before .before .before .before .before .before .before in
-    (tiles-short _ (s .args .position .now) (s .args .error .now) (given s) lacks, (λ _. refl, (λ _. refl, (λ _. refl, λ h _. contrary h lacks))))
+    (tiles-short _ (s .args .position .now) (s .args .error .now) (given s) lacks, (λ _. refl, (λ _. refl, (λ _. refl, (λ h _. contrary h lacks, λ h. contrary refl (accepted-by-0 ShortBuffer h))))))
 
 returns-2 : tie.Need-returns-2
 returns-2 c =
@@ -74,7 +76,7 @@ returns-2 c =
           λ n. ap (λ (b : Buffers). b .col-starts) (kept n),
           (
             λ n. ap (λ (b : Buffers). b .row-starts) (kept n),
-            λ _ a. demand3-left x _ _ number (back .1 (has k)) (demand k a),
+            (λ _ a. demand3-left x _ _ number (back .1 (has k)) (demand k a), cleared-left x _ _ number (back .1 (has k)) (k .parse-tile-info .ensures .1 .1)),
           ),
         ),
       ),

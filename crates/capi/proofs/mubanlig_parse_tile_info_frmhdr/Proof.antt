@@ -5,21 +5,22 @@ use native.Mathlib.Omega.{arith}
 use borrow.Author.Needs.{needs}
 use borrow.Author.Tests.{not-true, not-false}
 use mir.Facts.{toZ-ofZ}
-use Rattle.answers.specs.declared.Answer.the-variants.{WrongArguments}
+use Rattle.answers.proofs.Numbers.{accepted-by-0}
+use Rattle.answers.specs.declared.Answer.the-variants.{WrongArguments, ShortBuffer}
 use Rattle.getbits.proofs.Callers.{as-read, read-none}
-use Rattle.getbits.proofs.Chain.{contrary, through, taken, left, both}
+use Rattle.getbits.proofs.Chain.{contrary, through, taken, left, both, both-hold}
 use Rattle.getbits.specs.declared.Number.{Number}
 use Rattle.getbits.specs.declared.Place.{Place}
 use Rattle.lent.specs.Lent.{placeOf}
-use Rattle.frame_hdr.proofs.Fresh.{fresh-demand-3}
-use Rattle.frame_hdr.specs.Frame.{FreshDemand3, parseTileInfoFrmhdr, frameTiles}
+use Rattle.frame_hdr.proofs.Cleared.{frame-promised}
+use Rattle.frame_hdr.specs.Frame.{FrameLayout, parseTileInfoFrmhdr, frameTiles}
 use Rattle.frame_hdr.specs.declared.FrameHeader.{FrameHeader}
 use Rattle.frame_hdr.specs.declared.SeqLayout.{SeqLayout}
 use Rattle.flat.specs.Layout.{Buffers, buffers, hasRoom}
 use Rattle.lent.specs.Calls.{answered}
 use Rattle.lent_tiles.specs.Calls.{handedFrame, isKnown, frameGiven, seqGiven, lentFrames, lentFrame}
-use Rattle.lent.proofs.Calls.{row, triple, first-fails, second-fails, both-hold}
-use Rattle.lent_tiles.proofs.Left.{frames-short, frame-number, code-kept, frame-kept, demand3-left}
+use Rattle.lent.proofs.Calls.{row, triple, first-fails, second-fails}
+use Rattle.lent_tiles.proofs.Left.{frames-short, frame-number, code-kept, frame-kept, cleared-left, demand3-left}
 use Rattle.capi.proofs.mubanlig_parse_tile_info_frmhdr.Statement.{statement}
 use Rattle.capi.proofs.mubanlig_parse_tile_info_frmhdr.Tie as tie
 
@@ -50,7 +51,7 @@ start k = k .before .before .before .before .before .before .before .before .bef
 roomy : (k : tie.Else2) → hasRoom (own (k .before .before .before .before .before .before .before .before .before .before .before .before .before .before)) && hasRoom (theirs (k .before .before .before .before .before .before .before .before .before .before .before .before .before .before)) ≡ true
 roomy k =
     let e = k .before .before in
-    both-hold _ _ (sym (e .before .has-room .ensures) ∙ not-false (e .before .has-room .result) (e .if1 .left))
+    both-hold (sym (e .before .has-room .ensures) ∙ not-false (e .before .has-room .result) (e .if1 .left))
     (sym (k .before .has-room2 .ensures) ∙ not-false (k .before .has-room2 .result) (k .if2 .left))
 
 room : (k : tie.After-frame-layout) → hasRoom (own (start k)) && hasRoom (theirs (start k)) ≡ true
@@ -66,10 +67,10 @@ read k =
     let s = start k in
     rw (k .before .before .before .before .before .before .before .before .before .place-of .ensures, k .before .seq-given .ensures, k .before .before .frame-given .ensures, toZ-ofZ (s .fits .width), toZ-ofZ (s .fits .height), toZ-ofZ (s .fits .max-width), toZ-ofZ (s .fits .max-height)) at (k .frame-layout .ensures .0)
 
-demand : (k : tie.After-frame-layout) → FreshDemand3 (start k .args .s .now) (place (start k)) (header (start k)) (sequence (start k)) (k .frame-layout .result)
-demand k =
+promised : (k : tie.After-frame-layout) → FrameLayout (start k .args .s .now) (place (start k)) (header (start k)) (sequence (start k)) (k .frame-layout .result)
+promised k =
     let s = start k in
-    subst (FreshDemand3 (s .args .s .now) (place s) (header s) (sequence s)) (sym (read k)) (fresh-demand-3 (s .args .s .now) (place s) (header s) (sequence s))
+    subst (FrameLayout (s .args .s .now) (place s) (header s) (sequence s)) (sym (read k)) (frame-promised (s .args .s .now) (place s) (header s) (sequence s))
 
 -- what the definition says, once the layout is read
 meaning : (k : tie.After-frame-layout)
@@ -83,14 +84,14 @@ returns c =
     let s = c .before .before .before .before .before .before .before .before .before .before .before .before in
     let lacks = sym (c .before .has-room .ensures) ∙ not-true (c .before .has-room .result) (c .if1 .taken) in
     let fails = first-fails _ (hasRoom (theirs s)) lacks in
-    (frames-short _ (s .args .s .now) (s .args .position .now) (s .args .error .now) (s .args .sb128 .now) (own s) (theirs s) (known-type s) fails, (λ _. refl, (λ _. refl, (λ _. refl, (λ _. refl, λ h _. contrary h fails)))))
+    (frames-short _ (s .args .s .now) (s .args .position .now) (s .args .error .now) (s .args .sb128 .now) (own s) (theirs s) (known-type s) fails, (λ _. refl, (λ _. refl, (λ _. refl, (λ _. refl, (λ h _. contrary h fails, λ h. contrary refl (accepted-by-0 ShortBuffer h)))))))
 
 returns-2 : tie.Need-returns-2
 returns-2 c =
     let s = c .before .before .before .before .before .before .before .before .before .before .before .before .before .before in
     let lacks = sym (c .before .has-room2 .ensures) ∙ not-true (c .before .has-room2 .result) (c .if2 .taken) in
     let fails = second-fails (hasRoom (own s)) _ lacks in
-    (frames-short _ (s .args .s .now) (s .args .position .now) (s .args .error .now) (s .args .sb128 .now) (own s) (theirs s) (known-type s) fails, (λ _. refl, (λ _. refl, (λ _. refl, (λ _. refl, λ h _. contrary h fails)))))
+    (frames-short _ (s .args .s .now) (s .args .position .now) (s .args .error .now) (s .args .sb128 .now) (own s) (theirs s) (known-type s) fails, (λ _. refl, (λ _. refl, (λ _. refl, (λ _. refl, (λ h _. contrary h fails, λ h. contrary refl (accepted-by-0 ShortBuffer h)))))))
 
 returns-3 : tie.Need-returns-3
 unfolding lentFrames
@@ -106,7 +107,7 @@ returns-3 c =
     let here = ap (λ (r : Number). r .next) (as-read (a .s .now) (p .place-of .result) 0 (omega arith) (r .read-bits .ensures) ∙ read-none (a .s .now) (p .place-of .result)) in (
       triple (row WrongArguments (r .read-bits .result .next) (a .error .now) refl (c .put-place .ensures) ∙ ap (λ (q : Place). answered WrongArguments q (a .error .now)) (rw (p .place-of .ensures) at here)) refl refl
           ∙ sym (taken _ _ _ (roomy k) ∙ left _ _ _ unknown),
-      (λ _. refl, (λ _. refl, (λ _. refl, (λ _. refl, λ _ h. contrary h unknown)))),
+      (λ _. refl, (λ _. refl, (λ _. refl, (λ _. refl, (λ _ h. contrary h unknown, λ h. contrary refl (accepted-by-0 WrongArguments h)))))),
     )
 
 returns-4 : tie.Need-returns-4
@@ -122,7 +123,7 @@ returns-4 c =
       back .0 ∙ sym (meaning k),
       (
         code-kept x (s .args .error .now) (s .args .sb128 .now) (own s) (back .0),
-        (λ n. ap (λ (b : Buffers). b .bytes) (kept n), (λ n. ap (λ (b : Buffers). b .col-starts) (kept n), (λ n. ap (λ (b : Buffers). b .row-starts) (kept n), λ _ _ a f. demand3-left (frameTiles x) _ _ number info (demand k a f)))),
+        (λ n. ap (λ (b : Buffers). b .bytes) (kept n), (λ n. ap (λ (b : Buffers). b .col-starts) (kept n), (λ n. ap (λ (b : Buffers). b .row-starts) (kept n), (λ _ _ a f. demand3-left (frameTiles x) _ _ number info (promised k .fresh a f), cleared-left (frameTiles x) _ _ number info (promised k .over))))),
       ),
     )
 

@@ -8,7 +8,7 @@ use mir.Facts.{toZ-ofZ}
 use Rattle.answers.proofs.Numbers.{accepted-by-0}
 use Rattle.answers.specs.declared.Answer.the-variants.{WrongArguments, ShortBuffer}
 use Rattle.getbits.proofs.Callers.{as-read, read-none}
-use Rattle.getbits.proofs.Chain.{contrary, through, taken, left, both}
+use Rattle.getbits.proofs.Chain.{contrary, through, taken, left, both, both-hold}
 use Rattle.getbits.specs.declared.Number.{Number}
 use Rattle.getbits.specs.declared.Place.{Place}
 use Rattle.lent.specs.Lent.{placeOf}
@@ -18,8 +18,8 @@ use Rattle.frame_hdr.specs.declared.SeqLayout.{SeqLayout}
 use Rattle.flat.specs.Layout.{Buffers, buffers, hasRoom}
 use Rattle.lent.specs.Calls.{answered}
 use Rattle.lent_tiles.specs.Calls.{handedFrame, isKnown, frameGiven, seqGiven, lentFrames, lentFrame}
-use Rattle.lent.proofs.Calls.{row, triple, first-fails, second-fails, both-hold}
-use Rattle.lent_tiles.proofs.Left.{frames-short, frame-number, code-kept, frame-kept}
+use Rattle.lent.proofs.Calls.{row, triple, first-fails, second-fails}
+use Rattle.lent_tiles.proofs.Left.{frames-short, frame-number, code-kept, frame-kept, cleared-left}
 use Rattle.tile_limit.specs.Promises.{FreshAccepted, LimitedFrame}
 use Rattle.tile_limit.specs.Within.{wall, parseTileInfoFrmhdrWithin}
 use Rattle.tile_limit.specs.declared.TileLimit.{TileLimit}
@@ -67,7 +67,7 @@ start k = k .before .before .before .before .before .before .before .before .bef
 roomy : (k : tie.Else2) → hasRoom (own (k .before .before .before .before .before .before .before .before .before .before .before .before .before .before)) && hasRoom (theirs (k .before .before .before .before .before .before .before .before .before .before .before .before .before .before)) ≡ true
 roomy k =
     let e = k .before .before in
-    both-hold _ _ (sym (e .before .has-room .ensures) ∙ not-false (e .before .has-room .result) (e .if1 .left))
+    both-hold (sym (e .before .has-room .ensures) ∙ not-false (e .before .has-room .result) (e .if1 .left))
     (sym (k .before .has-room2 .ensures) ∙ not-false (k .before .has-room2 .result) (k .if2 .left))
 
 room : (k : tie.After-frame-layout-within) → hasRoom (own (start k)) && hasRoom (theirs (start k)) ≡ true
@@ -101,7 +101,7 @@ returns c =
     let lacks = sym (c .before .has-room .ensures) ∙ not-true (c .before .has-room .result) (c .if1 .taken) in
     let fails = first-fails _ (hasRoom (theirs s)) lacks in
     let e = frames-short _ (s .args .s .now) (s .args .position .now) (s .args .error .now) (s .args .sb128 .now) (own s) (theirs s) (known-type s) fails in
-    (e, (λ _. refl, (λ _. refl, (λ _. refl, (λ _. refl, (λ h _. contrary h fails, (λ h. contrary refl (accepted-by-0 ShortBuffer h), λ w. e ∙ on-wall s w)))))))
+    (e, (λ _. refl, (λ _. refl, (λ _. refl, (λ _. refl, (λ h _. contrary h fails, (λ h. contrary refl (accepted-by-0 ShortBuffer h), (λ w. e ∙ on-wall s w, λ h. contrary refl (accepted-by-0 ShortBuffer h)))))))))
 
 returns-2 : tie.Need-returns-2
 returns-2 c =
@@ -109,7 +109,7 @@ returns-2 c =
     let lacks = sym (c .before .has-room2 .ensures) ∙ not-true (c .before .has-room2 .result) (c .if2 .taken) in
     let fails = second-fails (hasRoom (own s)) _ lacks in
     let e = frames-short _ (s .args .s .now) (s .args .position .now) (s .args .error .now) (s .args .sb128 .now) (own s) (theirs s) (known-type s) fails in
-    (e, (λ _. refl, (λ _. refl, (λ _. refl, (λ _. refl, (λ h _. contrary h fails, (λ h. contrary refl (accepted-by-0 ShortBuffer h), λ w. e ∙ on-wall s w)))))))
+    (e, (λ _. refl, (λ _. refl, (λ _. refl, (λ _. refl, (λ h _. contrary h fails, (λ h. contrary refl (accepted-by-0 ShortBuffer h), (λ w. e ∙ on-wall s w, λ h. contrary refl (accepted-by-0 ShortBuffer h)))))))))
 
 returns-3 : tie.Need-returns-3
 unfolding lentFrames
@@ -126,7 +126,7 @@ returns-3 c =
     let e =
     triple (row WrongArguments (r .read-bits .result .next) (a .error .now) refl (c .put-place .ensures) ∙ ap (λ (q : Place). answered WrongArguments q (a .error .now)) (rw (p .place-of .ensures) at here)) refl refl
     ∙ sym (taken _ _ _ (roomy k) ∙ left _ _ _ unknown) in
-    (e, (λ _. refl, (λ _. refl, (λ _. refl, (λ _. refl, (λ _ h. contrary h unknown, (λ h. contrary refl (accepted-by-0 WrongArguments h), λ w. e ∙ on-wall s w)))))))
+    (e, (λ _. refl, (λ _. refl, (λ _. refl, (λ _. refl, (λ _ h. contrary h unknown, (λ h. contrary refl (accepted-by-0 WrongArguments h), (λ w. e ∙ on-wall s w, λ h. contrary refl (accepted-by-0 WrongArguments h)))))))))
 
 returns-4 : tie.Need-returns-4
 returns-4 c =
@@ -150,7 +150,7 @@ returns-4 c =
               λ n. ap (λ (b : Buffers). b .row-starts) (kept n),
               (
                 λ _ _. limited-left (frameTiles x) _ _ number info (promised k .limited),
-                (λ n. let h = accepted-by-0 (x .answer) (sym number ∙ n) in subst (FreshAccepted (s .args .s .now) (place s) (header s) (sequence s)) (sym (info h)) (promised k .accepted h), λ w. e ∙ on-wall s w),
+                (λ n. let h = accepted-by-0 (x .answer) (sym number ∙ n) in subst (FreshAccepted (s .args .s .now) (place s) (header s) (sequence s)) (sym (info h)) (promised k .accepted h), (λ w. e ∙ on-wall s w, cleared-left (frameTiles x) _ _ number info (promised k .over))),
               ),
             ),
           ),

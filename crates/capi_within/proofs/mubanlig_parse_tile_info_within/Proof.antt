@@ -14,7 +14,7 @@ use Rattle.tile_layout.specs.Limits.{argsOf}
 use Rattle.tile_layout.specs.declared.TileArgs.{TileArgs}
 use Rattle.flat.specs.Layout.{Buffers, buffers, hasRoom, layoutIn}
 use Rattle.lent_tiles.specs.Calls.{handedTiles, lentTiles, lentTileInfo}
-use Rattle.lent_tiles.proofs.Left.{tiles-short, tiles-number, tiles-kept}
+use Rattle.lent_tiles.proofs.Left.{tiles-short, tiles-number, tiles-kept, cleared-left}
 use Rattle.tile_limit.specs.Promises.{LimitedTiles}
 use Rattle.tile_limit.specs.Within.{wall, parseTileInfoWithin}
 use Rattle.tile_limit.specs.declared.TileLimit.{TileLimit}
@@ -75,7 +75,7 @@ returns c =
     let lacks = sym (c .before .has-room .ensures) ∙ not-true (c .before .has-room .result) (c .if1 .taken) in
     let s = c .before .before .before .before .before .before .before .before .before in
     let e = tiles-short _ (s .args .position .now) (s .args .error .now) (given s) lacks in
-    (e, (λ _. refl, (λ _. refl, (λ _. refl, (λ h. contrary h lacks, (λ h. contrary refl (accepted-by-0 ShortBuffer h), λ w. e ∙ on-wall s w))))))
+    (e, (λ _. refl, (λ _. refl, (λ _. refl, (λ h. contrary h lacks, (λ h. contrary refl (accepted-by-0 ShortBuffer h), (λ w. e ∙ on-wall s w, λ h. contrary refl (accepted-by-0 ShortBuffer h))))))))
 
 returns-2 : tie.Need-returns-2
 returns-2 c =
@@ -96,7 +96,7 @@ returns-2 c =
             λ n. ap (λ (b : Buffers). b .row-starts) (kept n),
             (
               λ _. limited-left x _ _ number (back .1 (has k)) (promised k .limited),
-              (λ n. let h = accepted-by-0 (x .answer) (sym number ∙ n) in subst (AcceptedLayout (s .args .s .now) (place s) (asked s)) (sym (back .1 (has k) h)) (promised k .accepted h), λ w. e ∙ on-wall s w),
+              (λ n. let h = accepted-by-0 (x .answer) (sym number ∙ n) in subst (AcceptedLayout (s .args .s .now) (place s) (asked s)) (sym (back .1 (has k) h)) (promised k .accepted h), (λ w. e ∙ on-wall s w, cleared-left x _ _ number (back .1 (has k)) (promised k .over))),
             ),
           ),
         ),

@@ -14,22 +14,22 @@ use Rattle.getbits.specs.declared.Flag.{Flag}
 use Rattle.getbits.specs.declared.Place.{Place}
 use Rattle.tile_layout.specs.Limits.{inDomain}
 use Rattle.tile_layout.specs.declared.TileArgs.{TileArgs}
-use Rattle.frame_hdr.specs.Frame.{inFrameDomain, readReuse, withLayout, parseTileInfoFrmhdr, FreshDemand3}
+use Rattle.frame_hdr.specs.Frame.{inFrameDomain, readReuse, withLayout, parseTileInfoFrmhdr, FrameLayout}
 use Rattle.frame_hdr.specs.declared.FrameHeader.{FrameHeader}
 use Rattle.frame_hdr.specs.declared.FrameRead.{FrameRead}
 use Rattle.frame_hdr.proofs.Usable.{Tiled, frame-usable, frame-in-domain, allowed-only, reused-tiled}
-use Rattle.frame_hdr.proofs.Fresh.{fresh-demand-3}
+use Rattle.frame_hdr.proofs.Cleared.{frame-promised}
 use Rattle.frame_hdr.proofs.frame_layout.Statement.{statement}
 use Rattle.frame_hdr.proofs.frame_layout.Tie as tie
 
 abbrev bytes : tie.Start → List ℕ
 bytes k = k .args .s .now
 
--- demand 3 follows from the equation
+-- what is promised follows from the equation
 outcome : (k : tie.Start) {r : FrameRead} → r ≡ parseTileInfoFrmhdr (bytes k) (k .args .p) (k .args .hdr) (k .args .seq)
-    → (r ≡ parseTileInfoFrmhdr (bytes k) (k .args .p) (k .args .hdr) (k .args .seq)) × FreshDemand3 (bytes k) (k .args .p) (k .args .hdr) (k .args .seq) r
+    → (r ≡ parseTileInfoFrmhdr (bytes k) (k .args .p) (k .args .hdr) (k .args .seq)) × FrameLayout (bytes k) (k .args .p) (k .args .hdr) (k .args .seq) r
 outcome k e =
-    (e, subst (FreshDemand3 (bytes k) (k .args .p) (k .args .hdr) (k .args .seq)) (sym e) (fresh-demand-3 (bytes k) (k .args .p) (k .args .hdr) (k .args .seq)))
+    (e, subst (FrameLayout (bytes k) (k .args .p) (k .args .hdr) (k .args .seq)) (sym e) (frame-promised (bytes k) (k .args .p) (k .args .hdr) (k .args .seq)))
 
 inside : (c : tie.Else1) → inFrameDomain (c .before .before .before .args .hdr) (c .before .before .before .args .seq) ≡ true
 inside c = sym (c .before .in-frame-domain .ensures) ∙ not-false (c .before .in-frame-domain .result) (c .if1 .left)

@@ -18,7 +18,7 @@ unfolding frameReadText
 returns-2 c =
     let p = c .before .before in
     let e = p .before .before .before .before .before in
-    rw (← e .before .is-refusal .ensures, e .if1 .left) (p .put-layout .ensures)
+    rw (← e .before .is-refusal .ensures, e .if1 .left) (p .put-whole-layout .ensures)
 
 pub put-frame-read-spec : {M : Type 1} → statement M
 put-frame-read-spec =

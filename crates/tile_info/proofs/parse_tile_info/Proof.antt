@@ -1,5 +1,5 @@
 -- `tile_info::parse_tile_info` meets its contract. Assumes nothing.
-use mathlib.Core.Path.{_≡_, sym, _∙_, ap, subst}
+use mathlib.Core.Path.{_≡_, refl, sym, _∙_, ap, subst}
 use native.Mathlib.Omega.{arith}
 use borrow.Author.Needs.{needs}
 use lib.Dec.{T}
@@ -7,7 +7,7 @@ use mir.Facts.{toZ-ofZ}
 use Rattle.tile_layout.specs.Limits.{argsOf, inDomain}
 use Rattle.tile_layout.specs.declared.TileArgs.{TileArgs}
 use Rattle.tile_layout.proofs.Demand3.{demand-3}
-use Rattle.tile_layout.specs.Demand3.{Demand3}
+use Rattle.tile_layout.proofs.Cleared.{refused-over, read-over}
 use Rattle.tile_layout.specs.Layout.{parseTileInfo}
 use Rattle.getbits.proofs.Chain.{left}
 use Rattle.getbits.proofs.Callers.{as-read, read-none}
@@ -33,8 +33,9 @@ read-layout-requires c κs = sym (c .before .in-domain .ensures) ∙ c .if1 .tak
 returns : tie.Need-returns
 returns c =
     let k = c .before .before .before .before .before .args in
+    let a = given (c .before .before .before .before .before) in
     let e = c .read-layout .ensures ∙ ap (parseTileInfo (k .s .now) (k .p) (k .thdr)) (made (c .before .before .before)) in
-    (e, λ d. subst (Demand3 (k .s .now) (k .p) (given (c .before .before .before .before .before))) (sym e) (demand-3 (k .s .now) (k .p) (k .thdr) (given (c .before .before .before .before .before)) d))
+    (e, rw e (demand-3 (k .s .now) (k .p) (k .thdr) a, read-over (k .s .now) (k .p) (k .thdr) a))
 
 returns-2 : tie.Need-returns-2
 unfolding parseTileInfo
@@ -42,7 +43,7 @@ returns-2 c =
     let k = c .before .before .before .before .before .before .args in
     let t = ap inDomain (sym (made (c .before .before .before .before))) ∙ sym (c .before .before .before .in-domain .ensures) ∙ c .before .before .if1 .left in
     let q = ap (λ (r : Number). r .next) (as-read (k .s .now) (k .p) 0 (omega arith) (c .before .read-bits .ensures) ∙ read-none (k .s .now) (k .p)) in
-    (sym (left _ _ _ t ∙ ap (λ (x : Place). record { answer = WrongArguments; info = k .thdr; next = x }) (sym q)), λ d. absurd (subst T (sym d ∙ t) tt))
+    (sym (left _ _ _ t ∙ ap (λ (x : Place). record { answer = WrongArguments; info = k .thdr; next = x }) (sym q)), (λ d. absurd (subst T (sym d ∙ t) tt), refused-over _ refl refl))
 
 pub parse-tile-info-spec : {M : Type 1} → statement M
 parse-tile-info-spec =

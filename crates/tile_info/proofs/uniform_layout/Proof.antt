@@ -5,7 +5,7 @@ use borrow.Author.Needs.{needs}
 use Rattle.tile_info.proofs.Rules.{uniform-made}
 use Rattle.tile_layout.proofs.Area.{min-cols, max-cols, min-rows, max-rows}
 use Rattle.tile_layout.proofs.Logs.{log-read}
-use Rattle.tile_layout.proofs.Lengths.{cols-length, rows-length}
+use mathlib.Core.Path.{refl}
 use Rattle.tile_layout.proofs.Domain.{domain}
 use Rattle.tile_info.proofs.uniform_layout.Statement.{statement}
 use Rattle.tile_info.proofs.uniform_layout.Tie as tie
@@ -27,27 +27,27 @@ read-log2-requires-2 c κs =
 
 uniform-starts-requires : tie.Need-uniform-starts-requires
 uniform-starts-requires c κs =
-    let l = c .before .before .before .before .before in
+    let l = c .before .before .before in
     let s = l .before .before in
     let d = domain (s .args .a) (s .pre .0) in
-    (s .pre .0, (s .pre .1 .coded, (cols-length (s .args .thdr) _ (s .good .1 .1 .0), d .some-width, d .most-width, s .pre .1 .across, l .read-log2 .ensures .2)))
+    (s .pre .0, (s .pre .1 .coded, (refl, d .some-width, d .most-width, s .pre .1 .across, l .read-log2 .ensures .2)))
 
 uniform-starts-requires-2 : tie.Need-uniform-starts-requires-2
 uniform-starts-requires-2 c κs =
-    let r = c .before .before .before .before .before in
+    let r = c .before .before .before in
     let s = r .before .before .before .before in
     let d = domain (s .args .a) (s .pre .0) in
-    (s .pre .0, (s .pre .1 .coded, (rows-length (s .args .thdr) _ (s .good .1 .1 .0), d .some-height, d .most-height, s .pre .1 .down, r .read-log22 .ensures .2)))
+    (s .pre .0, (s .pre .1 .coded, (refl, d .some-height, d .most-height, s .pre .1 .down, r .read-log22 .ensures .2)))
 
 returns : tie.Need-returns
 returns c =
     let y = c .before in
     let x = y .before .before in
-    let r = x .before .before .before .before in
+    let r = x .before .before in
     let u = r .before in
     let l = u .before in
     let s = l .before .before in
-    uniform-made (s .args .s .now) (s .args .p) (s .args .thdr) (s .pre .1) (l .read-log2 .result) (r .read-log22 .result) _ _ _ _ _
+    uniform-made (s .args .s .now) (s .args .p) (s .pre .1) (l .read-log2 .result) (r .read-log22 .result) _ _ _ _ _
     (l .read-log2 .ensures .0) (l .read-log2 .ensures .1) (u .usub .ensures) (r .read-log22 .ensures .0) (r .read-log22 .ensures .1)
     (x .uniform-starts .ensures .0) (x .uniform-starts .ensures .1) (y .uniform-starts2 .ensures .0) (y .uniform-starts2 .ensures .1)
 

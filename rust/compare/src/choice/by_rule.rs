@@ -215,7 +215,7 @@ impl Adder<'_> {
         }
     }
 
-    /// A case that is accepted.
+    /// A case that is accepted, from a place inside its data.
     fn good_case(&mut self, kind: Kind) -> Case {
         let mut case = Case::of(kind);
         let mut outcome = Outcome::default();
@@ -226,9 +226,7 @@ impl Adder<'_> {
         loop {
             make(self.rng, &mut case, &mut outcome);
             expected(&case, &mut outcome);
-            // A layout that is written is always by a rule.
-            let by_rule = outcome.rule.is_some() && kind != Kind::WriteTileInfo;
-            if outcome.answer == 0 && !by_rule && case.data.len() < 40 {
+            if outcome.answer == 0 && !case.is_past_end() && case.data.len() < 40 {
                 return case;
             }
         }

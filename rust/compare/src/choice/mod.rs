@@ -4,6 +4,7 @@
 //! how many stored answers differ.
 
 mod by_rule;
+mod cleared;
 mod document;
 mod frames;
 mod grain;
@@ -34,6 +35,7 @@ pub fn cases(seed: u64) -> Vec<Case> {
     within::add(&mut list, seed);
     grain::add(&mut list, seed);
     writing::add(&mut list, seed);
+    cleared::add(&mut list, seed);
     list
 }
 

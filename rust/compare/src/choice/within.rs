@@ -55,7 +55,7 @@ pub fn add(list: &mut Vec<Case>, seed: u64) {
 }
 
 /// The case within a limit.
-fn limited(mut case: Case, limit: [i64; 2]) -> Case {
+pub fn limited(mut case: Case, limit: [i64; 2]) -> Case {
     case.kind = match case.kind {
         Kind::ParseTileInfo => Kind::ParseTileInfoWithin,
         _ => Kind::ParseTileInfoFrmhdrWithin,

@@ -1,13 +1,13 @@
-//! Layouts to be written: each logarithm and sizes on both sides of their limits, records with one number changed, buffers about
-//! the bytes needed, arguments outside the domain.
+//! Layouts to be written: each logarithm and sizes on both sides of their limits, records with one number changed, numbers behind
+//! the closing starts, buffers about the bytes needed, arguments outside the domain.
 
 use super::by_rule;
 use crate::bits::BitWriter;
 use crate::case::{Case, Outcome};
 use crate::kind::Kind;
-use crate::make::layouts::PAIRS;
+use crate::make::layouts::{PAIRS, places_behind};
 use crate::make::make;
-use crate::make::writing::{listed, listed_layout, old_starts, sizes, tell_sizes};
+use crate::make::writing::{listed, listed_layout, sizes, tell_sizes};
 use crate::records::TILE;
 use crate::rng::Rng;
 use crate::rules::expected;
@@ -42,6 +42,8 @@ pub fn add(list: &mut Vec<Case>, seed: u64) {
     add.lengths();
     add.random();
     add.short_buffers();
+    add.starts_behind();
+    add.whole_bytes();
 }
 
 /// What bits read as.
@@ -163,12 +165,14 @@ impl Adder<'_> {
         }
     }
 
-    /// Sizes inside their limits; some with old starts behind the closing ones.
+    /// Sizes inside their limits; some with numbers at all places behind the closing starts.
     fn sizes(&mut self) {
         for i in 0..40 {
             let mut layout = self.listed();
             if i % 8 == 0 {
-                old_starts(self.rng, &mut layout.0);
+                for places in places_behind(&layout.0) {
+                    layout.0[places].fill_with(|| i64::from(self.rng.number() as u16));
+                }
             }
             let more = self.rng.range(0, 2);
             self.case(layout, more);
@@ -271,7 +275,7 @@ impl Adder<'_> {
         }
     }
 
-    /// The first start, one between, the closing one, and the one behind it, which doesn't count.
+    /// The first start, one between, the closing one, and the number behind it.
     fn changed_starts(&mut self) {
         for (row, b) in bases() {
             for (first, count) in [(9, row[4]), (74, row[8])] {
@@ -369,6 +373,56 @@ impl Adder<'_> {
                 case.args[TILE + 7] > ROOM
             } {}
             self.push(case.args.clone());
+        }
+    }
+
+    /// A number at one place behind a closing start, the first there, one between or the last; before a short buffer, and behind an
+    /// argument outside the domain. Of 63 columns or rows there is but one place, of 64 none.
+    fn starts_behind(&mut self) {
+        let full = [
+            told(PAIRS[0], 0, &[1; 63], &[2, 1]),
+            told(PAIRS[1], 19, &[1, 2], &[1; 63]),
+            told(PAIRS[0], 5, &[1; 64], &[1, 3]),
+            told(PAIRS[2], 5, &[3, 1], &[1; 64]),
+        ];
+        for (row, b) in bases().into_iter().chain(full) {
+            for places in places_behind(&row) {
+                let mut chosen = vec![
+                    places.start,
+                    places.start.midpoint(places.end),
+                    places.end - 1,
+                ];
+                chosen.retain(|place| places.contains(place));
+                chosen.dedup();
+                for (i, at) in chosen.into_iter().enumerate() {
+                    let mut row = row.clone();
+                    row[at] = self.rng.pick(&[1, row[places.start - 1], 65_535]);
+                    self.case((row.clone(), b), 1 - i as i64);
+                    if self.rng.percent(10) {
+                        let mut b = b;
+                        b[5] = 32;
+                        self.case((row, b), 1);
+                    }
+                }
+            }
+        }
+    }
+
+    /// Bits that fill their last byte, in a buffer of just as many bytes and of one less.
+    fn whole_bytes(&mut self) {
+        let mut outcome = Outcome::default();
+        for _ in 0..4 {
+            let layout = loop {
+                let layout = self.listed();
+                self.case(layout.clone(), 0);
+                expected(&self.list.pop().unwrap(), &mut outcome);
+                if outcome.record[0] % 8 == 0 {
+                    break layout;
+                }
+            };
+            for more in [0, -1] {
+                self.case(layout.clone(), more);
+            }
         }
     }
 

@@ -8,7 +8,7 @@ use crate::rng::Rng;
 /// Frame type, width, height, code, layout; then code, sizes, level, tier, tiling and layout of the sequence.
 pub fn case(rng: &mut Rng, case: &mut Case) {
     let mut seq = sequence(rng);
-    let (mut width, mut height) = frame_size(rng, seq[1], seq[2]);
+    let (mut width, mut height) = frame_size(rng, &seq);
     if rng.percent(4) {
         match rng.below(4) {
             0 => width = rng.pick(&[0, -1, 65_537, i64::from(i32::MAX)]),
@@ -47,11 +47,14 @@ fn sequence(rng: &mut Rng) -> Vec<i64> {
     seq
 }
 
-/// The sequence's size, half of it, one near it, or any.
-fn frame_size(rng: &mut Rng, width: i64, height: i64) -> (i64, i64) {
+/// The sequence's size, half of it, one near it, or any. With multiplier 2 a frame of half the size has as many superblocks as the
+/// sequence, and reuses a layout that is not uniform.
+fn frame_size(rng: &mut Rng, seq: &[i64]) -> (i64, i64) {
     let way = rng.below(6);
+    let by_size = seq[0] == 2 && seq[6] == 0;
     let mut of = |n: i64| {
         let n = match way {
+            1 if by_size => (n + 1) / 2,
             0 | 1 => n,
             2 => n / 2,
             3 | 4 => n + rng.range(-70, 70),
@@ -59,7 +62,7 @@ fn frame_size(rng: &mut Rng, width: i64, height: i64) -> (i64, i64) {
         };
         n.clamp(1, 65_536)
     };
-    (of(width), of(height))
+    (of(seq[1]), of(seq[2]))
 }
 
 fn spoil(rng: &mut Rng, seq: &mut [i64]) {

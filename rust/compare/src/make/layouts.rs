@@ -5,9 +5,17 @@ use crate::case::Case;
 use crate::records::{Numbers, TILE, from::theirs as from};
 use crate::rng::Rng;
 use oracle::Reader;
+use std::ops::Range;
 
 /// Multiplier, frame code and sequence code.
 pub const PAIRS: [[i64; 3]; 4] = [[1, 0, 0], [1, 1, 1], [1, 2, 2], [2, 1, 2]];
+/// Where the column starts and the row starts of a layout begin, and where their counts stand.
+pub const STARTS: [(usize, usize); 2] = [(9, 4), (74, 8)];
+
+/// The places behind the closing starts, of the columns and of the rows; none of a record with more than 64 tiles.
+pub fn places_behind(row: &[i64]) -> [Range<usize>; 2] {
+    STARTS.map(|(first, tiles)| first + row[tiles] as usize + 1..first + 65)
+}
 
 /// A width or height in the domain, often beside a whole number of superblocks.
 pub fn size(rng: &mut Rng) -> i64 {

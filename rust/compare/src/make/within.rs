@@ -85,6 +85,12 @@ pub fn frame_case(rng: &mut Rng, case: &mut Case) {
         let mut layout = Vec::new();
         given(rng, &mut layout);
         let [frame_type, sb128] = [rng.range(0, 3), rng.range(0, 3)];
+        // With multiplier 2 half the size has as many superblocks.
+        let frame = if frame == max && code == 2 && frame_type % 2 == 0 {
+            frame.map(|n| (n + 1) / 2)
+        } else {
+            frame
+        };
         case.args.extend([frame_type, frame[0], frame[1], sb128]);
         case.args.extend(layout);
         case.args.extend([code, max[0], max[1]]);

@@ -1,6 +1,7 @@
-//! Layouts to be written: those that bits read as, those made by hand of sizes, and both with a number changed.
+//! Layouts to be written: those that bits read as, those made by hand of sizes, and both with a number changed or one left behind
+//! a closing start.
 
-use super::layouts::{PAIRS, domain, size, spoil, tiling_bits};
+use super::layouts::{PAIRS, STARTS, domain, places_behind, size, spoil, tiling_bits};
 use crate::by_rule::in_domain;
 use crate::case::{Case, Source};
 use crate::records::TILE;
@@ -10,8 +11,6 @@ use crate::writing::{least_cols, least_log2, needed, row_limit, superblocks, wid
 
 /// The most columns, and the most rows.
 const MOST: i64 = 64;
-/// Where the column starts and the row starts of a layout begin, and where their counts stand.
-const STARTS: [(usize, usize); 2] = [(9, 4), (74, 8)];
 
 /// The layout, what it is read with, the buffer's length and its first byte. The data is what a layout was read from.
 pub fn case(rng: &mut Rng, case: &mut Case) -> Source {
@@ -21,22 +20,24 @@ pub fn case(rng: &mut Rng, case: &mut Case) -> Source {
     } else {
         read_layout(rng, case)
     };
-    if rng.flag() {
-        old_starts(rng, &mut case.args);
-    }
-    let mut source = if by_hand {
-        Source::Made
-    } else {
-        Source::Random
+    let changed = match rng.below(10) {
+        0 => old_starts(rng, &mut case.args),
+        1..=4 => {
+            change(rng, &mut case.args, &mut b);
+            true
+        }
+        _ => false,
     };
-    if rng.percent(40) {
-        change(rng, &mut case.args, &mut b);
+    if changed {
         case.data.clear();
-        source = Source::Damaged;
     }
     case.args.extend(b);
     buffer(rng, case);
-    source
+    match (changed, by_hand) {
+        (true, _) => Source::Damaged,
+        (false, true) => Source::Made,
+        (false, false) => Source::Random,
+    }
 }
 
 /// A layout that random bits read as without error.
@@ -128,12 +129,28 @@ pub fn listed(b: &[i64; 7], widths: &[i64], heights: &[i64]) -> Vec<i64> {
     row
 }
 
-/// Other starts behind the closing ones.
-pub fn old_starts(rng: &mut Rng, row: &mut [i64]) {
-    for (first, tiles) in STARTS {
-        let closing = first + row[tiles] as usize;
-        row[closing + 1..first + 65].fill_with(|| i64::from(rng.number() as u16));
+/// A number behind a closing start: the first there, the last, or any; or numbers at all places there. False if there is no such
+/// place.
+fn old_starts(rng: &mut Rng, row: &mut [i64]) -> bool {
+    let mut lists = places_behind(row).to_vec();
+    lists.retain(|places| !places.is_empty());
+    if lists.is_empty() {
+        return false;
     }
+    let places = lists[rng.below(lists.len() as u64) as usize].clone();
+    let closing = row[places.start - 1];
+    let any = rng.range(1, 65_535);
+    let number = rng.pick(&[1, closing, any]);
+    match rng.below(4) {
+        0 => row[places.start] = number,
+        1 => row[places.end - 1] = number,
+        2 => row[rng.range(places.start as i64, places.end as i64 - 1) as usize] = number,
+        _ => lists
+            .into_iter()
+            .flatten()
+            .for_each(|at| row[at] = rng.range(1, 65_535)),
+    }
+    true
 }
 
 /// One number of the record, two of them, the tiles told by their sizes, or what they are read with.

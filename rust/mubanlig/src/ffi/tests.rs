@@ -122,8 +122,10 @@ fn header(numbers: usize, lengths: Lengths) -> (u32, Lent) {
 
 /// The nine bytes of a sequence's layout: a flag that is not 1, and 6 columns and rows.
 const SEQ_INFO: [u8; INFO_BYTES] = [6, 0, 0, 0, 6, 0, 0, 0, 6];
+/// Its starts, of the columns and of the rows.
+const SEQ_STARTS: [u16; 7] = [0, 1, 2, 3, 4, 5, 6];
 
-/// A frame of 64 by 64 samples in a sequence with that layout.
+/// A frame of 64 by 64 samples in a sequence with that layout, which has old numbers behind its closing starts.
 fn frame(
     frame_type: u8,
     present: u8,
@@ -132,7 +134,8 @@ fn frame(
     limit: Limit,
 ) -> (u32, Lent) {
     let mut lent = LENT;
-    let starts = [0; 65];
+    let mut starts = [65_535; 65];
+    starts[..7].copy_from_slice(&SEQ_STARTS);
     macro_rules! call {
         ($symbol:ident $(, $limit:expr)*) => {
             // SAFETY: the buffers are at least as long as told.
@@ -194,7 +197,7 @@ fn film_grain(data: &[u8], place: (usize, u8), layout: u8, numbers: usize) -> (u
     (answer, lent)
 }
 
-/// A layout that is lent for writing. Behind its starts stand old ones.
+/// A layout that is lent for writing. Behind its starts stand zeros.
 #[derive(Clone, Copy)]
 struct Given {
     info: [u8; INFO_BYTES],
@@ -210,7 +213,7 @@ const LISTED: Given = Given {
 };
 
 fn starts_of(first: &[u16]) -> [u16; 65] {
-    let mut starts = [1023; 65];
+    let mut starts = [0; 65];
     starts[..first.len()].copy_from_slice(first);
     starts
 }
@@ -335,6 +338,23 @@ fn an_accepted_layout_writes_a_flag_of_0_or_1() {
     }
 }
 
+/// Both lists of starts are full before; the sequence's are so behind the closing start.
+#[test]
+fn an_accepted_layout_has_zeros_behind_its_starts() {
+    for limit in [None, Some([1, 1]), Some([16, 8])] {
+        let (answer, lent) = layout(LONG, 64, limit);
+        let starts = starts_of(&[0, 1]);
+        assert_eq!((answer, lent.cols, lent.rows), (0, starts, starts));
+    }
+    for limit in [None, Some([6, 6]), Some([16, 8])] {
+        for (frame_type, present, first) in [(1, 1, &SEQ_STARTS[..]), (0, 0, &[0, 1])] {
+            let (answer, lent) = frame(frame_type, present, LONG, LONG, limit);
+            let starts = starts_of(first);
+            assert_eq!((answer, lent.cols, lent.rows), (0, starts, starts));
+        }
+    }
+}
+
 /// A layout of 17 columns that is read, one of 6 columns and rows that is reused: both leave the reader where it is without
 /// a limit.
 #[test]
@@ -353,16 +373,23 @@ fn too_many_tiles_are_6_and_change_no_buffer() {
 fn a_refused_layout_writes_no_byte_and_no_bits() {
     let mut no_layout = LISTED;
     no_layout.info[5] = 1;
+    // A number behind a closing start.
+    let old = Given {
+        cols: &[0, 2, 3, 4, 4],
+        ..LISTED
+    };
     for lengths in SHORT {
-        for (t, w) in [(LISTED, 256), (LISTED, 0), (no_layout, 256)] {
+        for (t, w) in [(LISTED, 256), (LISTED, 0), (no_layout, 256), (old, 256)] {
             assert_eq!(written(t, lengths, w, 4), (5, 0, [0xAA; 4]));
         }
     }
     for out_len in [0, 1, 4] {
-        for t in [LISTED, no_layout] {
+        for t in [LISTED, no_layout, old] {
             assert_eq!(written(t, LONG, 0, out_len), (4, 0, [0xAA; 4]));
         }
-        assert_eq!(written(no_layout, LONG, 256, out_len), (8, 0, [0xAA; 4]));
+        for t in [no_layout, old] {
+            assert_eq!(written(t, LONG, 256, out_len), (8, 0, [0xAA; 4]));
+        }
     }
     assert_eq!(written(LISTED, LONG, 256, 0), (5, 0, [0xAA; 4]));
 }

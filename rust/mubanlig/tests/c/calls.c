@@ -473,17 +473,44 @@ static void a_header(void)
     CHECK(header(some(s, 7), &r, LONG, 0) == MUBANLIG_INVALID_SEQUENCE_HEADER);
 }
 
+/* Are the entries behind the closing starts 0? Only for counts of at most 64. */
+static int cleared(const struct record *r)
+{
+    size_t i;
+    int holds = 1;
+    for (i = r->info[MUBANLIG_INFO_COLS] + (size_t)1; i < MUBANLIG_STARTS; i++) {
+        holds &= r->cols[i] == 0;
+    }
+    for (i = r->info[MUBANLIG_INFO_ROWS] + (size_t)1; i < MUBANLIG_STARTS; i++) {
+        holds &= r->rows[i] == 0;
+    }
+    return holds;
+}
+
 /* An inter frame 192 wide in a sequence 256 wide reuses its columns 0 2 4 whole. */
 static void a_frame(void)
 {
     static const uint8_t S[] = { 0xC0 };
     static const struct frame_args A = { MUBANLIG_FRAME_INTER, 192, 64, 0, 256, 64, 0, 0, MUBANLIG_ON };
     struct record seq = filled(0), r = filled(0);
+    size_t i;
     CHECK(layout(some(S, sizeof S), &seq, LONG, sized(256, 64)) == MUBANLIG_ACCEPTED);
     CHECK(seq.info[MUBANLIG_INFO_UNIFORM] == 1);
     CHECK(frame(none(), &r, LONG, A, &seq, LONG) == MUBANLIG_ACCEPTED);
     CHECK(r.position == 0 && r.error == 0 && r.cols[0] == 0 && r.cols[1] == 2 && r.cols[2] == 4);
-    CHECK(memcmp(r.info, seq.info, sizeof r.info) == 0);
+    CHECK(memcmp(r.info, seq.info, sizeof r.info) == 0 && cleared(&r));
+    /* Old numbers behind the closing starts, the sequence's and the frame's. */
+    for (i = 3; i < MUBANLIG_STARTS; i++) {
+        seq.cols[i] = 77;
+    }
+    for (i = 2; i < MUBANLIG_STARTS; i++) {
+        seq.rows[i] = 77;
+    }
+    r = filled(0x2C);
+    r.position = 0;
+    r.error = 0;
+    CHECK(frame(none(), &r, LONG, A, &seq, LONG) == MUBANLIG_ACCEPTED);
+    CHECK(r.cols[1] == 2 && r.cols[2] == 4 && r.rows[1] == 1 && cleared(&r));
 }
 
 /* Are all but the place the same? */
@@ -493,6 +520,24 @@ static int keeps_all(const struct record *after, const struct record *before)
     r.position = before->position;
     r.error = before->error;
     return same(&r, before);
+}
+
+/* A layout over a long one: three columns and two rows over 64 and 64. A refused one leaves all that was there. */
+static void an_old_layout(void)
+{
+    static const uint8_t S[] = { 0x20 };
+    struct record old = filled(0), r;
+    CHECK(layout(none(), &old, LONG, sized(4096, 4096)) == MUBANLIG_ACCEPTED);
+    CHECK(old.info[MUBANLIG_INFO_COLS] == 64 && old.info[MUBANLIG_INFO_ROWS] == 64);
+    old.position = 0;
+    old.error = 0;
+    r = old;
+    CHECK(layout(some(S, sizeof S), &r, LONG, SMALL) == MUBANLIG_ACCEPTED);
+    CHECK(r.info[MUBANLIG_INFO_COLS] == 3 && r.cols[3] == 4 && r.info[MUBANLIG_INFO_ROWS] == 2 && r.rows[2] == 2 && cleared(&r));
+    r = old;
+    CHECK(layout(none(), &r, LONG, sized(4160, 64)) == MUBANLIG_INVALID_TILE_INFO && keeps_all(&r, &old));
+    r = old;
+    CHECK(layout_in(none(), &r, LONG, sized(17 * 64, 64), &PANEL) == MUBANLIG_TOO_MANY_TILES && keeps_all(&r, &old));
 }
 
 /* What a call within a limit has to give, seen from what was given and from the call without one. */
@@ -671,10 +716,8 @@ static void a_written_layout(void)
             r.bits = fresh.bits;
             CHECK(same(&r, &fresh));
         }
-        /* Starts behind the closing ones don't count, and a flag is any byte but 0. */
+        /* A flag is any byte but 0. */
         r = fresh;
-        r.cols[4] = 9;
-        r.rows[2] = 9;
         r.info[MUBANLIG_INFO_UNIFORM] = (uint8_t)(0x80 * r.info[MUBANLIG_INFO_UNIFORM]);
         CHECK(write_layout(&r, LONG, A) == MUBANLIG_ACCEPTED && r.bits == ROWS[i].bits);
         back = filled(0);
@@ -698,8 +741,8 @@ static void refused_layouts(void)
         n.written = j;
         r = fresh;
         CHECK(j == 0 ? refused_writing(&r, n, A, MUBANLIG_SHORT_BUFFER) : write_layout(&r, n, A) == MUBANLIG_ACCEPTED);
-        /* Each byte of info, a start, both closing ones. */
-        for (i = 0; i < 12; i++) {
+        /* Each byte of info, a start, both closing ones, and the first and the last behind each of these. */
+        for (i = 0; i < 16; i++) {
             struct layout_args wrong = A;
             r = fresh;
             if (i < 9) {
@@ -708,8 +751,12 @@ static void refused_layouts(void)
                 r.cols[1]++;
             } else if (i == 10) {
                 r.cols[3]++;
-            } else {
+            } else if (i == 11) {
                 r.rows[1]++;
+            } else if (i < 14) {
+                r.cols[i == 12 ? 4 : 64] = 5;
+            } else {
+                r.rows[i == 14 ? 2 : 64] = 1;
             }
             CHECK(refused_writing(&r, n, A, MUBANLIG_NO_SUCH_LAYOUT));
             wrong.h = i % 2 ? 0 : 65537;
@@ -963,7 +1010,7 @@ static void check_layout(const struct record *r, uint32_t sbw, uint32_t sbh)
         rising &= r->rows[i] < r->rows[i + 1];
     }
     CHECK(rising && r->cols[0] == 0 && r->rows[0] == 0);
-    CHECK(r->cols[cols] == sbw && r->rows[rows] == sbh);
+    CHECK(r->cols[cols] == sbw && r->rows[rows] == sbh && cleared(r));
 }
 
 /* Are all but the place and the three buffers of a layout the same, and these too if the call was refused? */
@@ -1145,7 +1192,10 @@ static void random_turn(void)
         a.h = 1 + (int32_t)below(8192);
         a.level = (uint8_t)below(32);
         layout(b, &fresh, LONG, a);
-        seq = fresh;
+        /* With old numbers behind its closing starts. */
+        memcpy(seq.info, fresh.info, sizeof seq.info);
+        memcpy(seq.cols, fresh.cols, (seq.info[MUBANLIG_INFO_COLS] + (size_t)1) * sizeof *seq.cols);
+        memcpy(seq.rows, fresh.rows, (seq.info[MUBANLIG_INFO_ROWS] + (size_t)1) * sizeof *seq.rows);
     }
     f.frame_type = (uint8_t)below(5);
     f.width = 1 + (int32_t)below(8192);
@@ -1160,7 +1210,7 @@ static void random_turn(void)
     answer = frame(b, &r, LONG, f, &seq, LONG);
     CHECK(answer == MUBANLIG_ACCEPTED || answer == MUBANLIG_INVALID_TILE_INFO || answer == MUBANLIG_WRONG_ARGUMENTS);
     CHECK(keeps(&r, &given, answer) && r.position <= end);
-    CHECK(answer != MUBANLIG_ACCEPTED || (r.info[MUBANLIG_INFO_UNIFORM] <= 1 && r.sb128 <= 2));
+    CHECK(answer != MUBANLIG_ACCEPTED || (r.info[MUBANLIG_INFO_UNIFORM] <= 1 && r.sb128 <= 2 && cleared(&r)));
     on_wall = r;
     limit = any_limit(&on_wall);
     r = given;
@@ -1178,6 +1228,7 @@ int main(void)
     a_layout_and_its_rectangles();
     a_header();
     a_frame();
+    an_old_layout();
     within_limits();
     a_film_grain();
     refused_film_grain();

@@ -5,11 +5,11 @@ use contract.Lifetimes.{Lfts}
 use contract.Running.{givenOf}
 use denote.RattleType.{Denots}
 use denote.Ref.{now}
-use Rattle.frame_hdr.specs.Frame.{parseTileInfoFrmhdr, FreshDemand3}
+use Rattle.frame_hdr.specs.Frame.{parseTileInfoFrmhdr, FrameLayout}
 use Rattle.frame_hdr.specs.Sequence.{seqLayout}
 use Rattle.frame_hdr.proofs.parse_tile_info_frmhdr.Symbol as f-def
 use Rattle.frame_hdr.proofs.parse_tile_info_frmhdr.Met as f-thm
-use Rattle.frame_hdr.proofs.Fresh.{fresh-demand-3}
+use Rattle.frame_hdr.proofs.Cleared.{frame-promised}
 use Rattle.reader.specs.Held.{frameHdrOf, frameReadOf}
 use Rattle.reader.proofs.after_frame_hdr.Symbol as g-def
 use Rattle.reader.proofs.after_frame_hdr.Met as g-thm
@@ -41,10 +41,10 @@ abbrev φ : Fact Ps frame-hdr-read
 
 -- the second fact, and that the first gives it
 abbrev ψ : Fact Ps frame-hdr-read
-ψ κs xs r = FreshDemand3 (now (xs .0 .«data»)) (xs .0 .at) (xs .1 .0) (seqLayout (xs .1 .1 .0)) (frameReadOf r)
+ψ κs xs r = FrameLayout (now (xs .0 .«data»)) (xs .0 .at) (xs .1 .0) (seqLayout (xs .1 .1 .0)) (frameReadOf r)
 
 law : (κs : Lfts 1) (xs : Denots (rows κs Ps)) (r : frame-hdr-read .base κs .Denot) → φ κs xs r → ψ κs xs r
-law κs xs r e = subst (ψ κs xs) (sym e) (fresh-demand-3 (now (xs .0 .«data»)) (xs .0 .at) (xs .1 .0) (seqLayout (xs .1 .1 .0)))
+law κs xs r e = subst (ψ κs xs) (sym e) (frame-promised (now (xs .0 .«data»)) (xs .0 .at) (xs .1 .0) (seqLayout (xs .1 .1 .0)))
 
 pub parse-tile-info-frmhdr-spec : {M : Type 1} → stated.statement M
 unfolding code.routine
@@ -53,6 +53,6 @@ parse-tile-info-frmhdr-spec 𝓤 H 𝓜 𝓖 𝓡 =
     (λ κs xs. parse-tile-info-frmhdr.clauses 𝓤 H (𝓖 .A) (𝓜 .mem) (𝓡 .run) κs xs .ensures tt) (λ κs xs r e. refl)
     (λ 𝓣 cite.
     walk 𝓤 H (𝓖 .A) (givenOf 𝓤 H 𝓜 𝓖) 𝓣 (frame-header ∷ seq-header ∷ []) frame-read frame-hdr-read f-def.name g-def.name f g (
-      cite _ f-def.name f-def.routine code.calls-frame-hdr·parse-tile-info-frmhdr (first 𝓤 H 𝓜 𝓖 𝓡 Fs frame-read (equals Fs frame-read f) (λ κs xs r. FreshDemand3 (now (xs .0)) (xs .1 .0) (xs .1 .1 .0) (seqLayout (xs .1 .1 .1 .0)) r) f-def.routine (f-thm.met 𝓤 H 𝓜 𝓖 𝓡)),
+      cite _ f-def.name f-def.routine code.calls-frame-hdr·parse-tile-info-frmhdr (first 𝓤 H 𝓜 𝓖 𝓡 Fs frame-read (equals Fs frame-read f) (λ κs xs r. FrameLayout (now (xs .0)) (xs .1 .0) (xs .1 .1 .0) (seqLayout (xs .1 .1 .1 .0)) r) f-def.routine (f-thm.met 𝓤 H 𝓜 𝓖 𝓡)),
       cite _ g-def.name g-def.routine code.calls-reader·after-frame-hdr (g-thm.met 𝓤 H 𝓜 𝓖 𝓡),
     ))

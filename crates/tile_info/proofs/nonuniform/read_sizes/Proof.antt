@@ -10,7 +10,7 @@ use Rattle.tile_info.proofs.nonuniform.read_sizes.Statement.{statement}
 use Rattle.tile_info.proofs.nonuniform.read_sizes.Tie as tie
 
 abbrev Inv-loop : tie.InvT-loop
-Inv-loop s starts₀ total limit next₀ sbx₀ widest-tile₀ tiles₀ starts next sbx widest-tile tiles = Walked s (total .0) (limit .0) next₀ starts₀ starts next (sbx .0) tiles (widest-tile .0)
+Inv-loop s starts₀ total limit next₀ sbx₀ widest-tile₀ tiles₀ starts next sbx widest-tile tiles = Walked s (total .0) (limit .0) next₀ starts next (sbx .0) tiles (widest-tile .0)
 
 abbrev μ-loop : tie.MeasureT-loop
 μ-loop s starts₀ total limit next₀ sbx₀ widest-tile₀ tiles₀ starts next sbx widest-tile tiles = 64 - tiles
@@ -20,7 +20,7 @@ less : (c : tie.After-below Inv-loop μ-loop) → c .below .result ≡ true → 
 less c h = ltb-true _ _ (sym (c .below .ensures) ∙ h)
 
 loop-holds : tie.Need-loop-holds Inv-loop μ-loop
-loop-holds c = walk-start _ _ _ _ _ _ _ (c .before .none .ensures) (c .none2 .ensures)
+loop-holds c = walk-start _ _ _ _ _ _ (c .before .before .before .pre .0) (c .before .none .ensures) (c .none2 .ensures)
 
 add-tiles : tie.Need-add-tiles Inv-loop μ-loop
 add-tiles c = omega (arith, ltb-true)
@@ -38,14 +38,14 @@ loop-again c =
     let l = b .before .loop in
     let s = b .before .before .before .before .before in
     let n : l .tiles < 64 = omega (arith, ltb-true) in
-    walk-next _ _ _ _ _ (l .inv) (less b (t .if1 .taken)) n (omega (arith, s .pre .0)) (s .pre .1) (s .pre .2)
+    walk-next _ _ _ _ (l .inv) (less b (t .if1 .taken)) n (s .pre .1) (s .pre .2)
     (m .minus .ensures) (r .read-size .ensures .0) (r .read-size .ensures .1) (p .put-start .ensures) (c .before .most .ensures) (c .plus .ensures)
 
 returns : tie.Need-returns Inv-loop μ-loop
-returns c = all-used _ _ _ _ _ _ (c .before .before .before .loop .inv) (omega (arith, ltb-false))
+returns c = all-used _ _ _ _ _ (c .before .before .before .loop .inv) (omega (arith, ltb-false))
 
 returns-2 : tie.Need-returns-2 Inv-loop μ-loop
-returns-2 c = all-done _ _ _ _ _ _ (c .before .before .loop .inv) (ltb-false _ _ (sym (c .before .below .ensures) ∙ c .if1 .left))
+returns-2 c = all-done _ _ _ _ _ (c .before .before .loop .inv) (ltb-false _ _ (sym (c .before .below .ensures) ∙ c .if1 .left))
 
 pub read-sizes-spec : {M : Type 1} → statement M
 read-sizes-spec =

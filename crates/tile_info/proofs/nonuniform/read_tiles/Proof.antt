@@ -32,7 +32,7 @@ returns c =
       stands = z .stands;
       stored =
           put .put-start .ensures
-          ∙ rw (i, v, z .stored) (grow (startsFrom 0 sizes) (a .starts .now) n (a .total .0) (length-starts sizes 0 ∙ sym (z .counted)) (omega (arith, z .few, s .pre .0)));
+          ∙ rw (i, v, z .stored) (grow (startsFrom 0 sizes) n (a .total .0) (length-starts sizes 0 ∙ sym (z .counted)) (omega (arith, z .few)));
     }
 
 pub read-tiles-spec : {M : Type 1} → statement M

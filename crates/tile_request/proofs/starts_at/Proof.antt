@@ -1,23 +1,22 @@
--- `write::starts_at` meets its contract. Assumes nothing.
+-- `tile_request::starts_at` meets its contract. Assumes nothing.
 use mathlib.Core.List.{List, append-nil}
 use mathlib.Core.Path.{_≡_}
 use Prim.Native.Nat.{ℕ, _+_, _-_, _*_, _≤_}
 use native.Mathlib.Omega.{arith}
 use borrow.Author.Needs.{needs}
-use lib.ListN.{replicate}
 use Rattle.program.specs.Input.{twoAt}
-use Rattle.tile_layout.specs.Layout.{tabulate, over}
+use Rattle.tile_layout.specs.Layout.{tabulate, padded}
 use Rattle.tile_layout.proofs.Laws.{length-tabulate, stored}
-use Rattle.write.specs.Request.{startsAt}
-use Rattle.write.proofs.starts_at.Statement.{statement}
-use Rattle.write.proofs.starts_at.Tie as tie
+use Rattle.tile_request.specs.Layout.{startsAt}
+use Rattle.tile_request.proofs.starts_at.Statement.{statement}
+use Rattle.tile_request.proofs.starts_at.Tie as tie
 
 -- the k-th start
 abbrev start : List ℕ → ℕ → ℕ → ℕ
 start s i k = twoAt s (i + 2 * k)
 
 abbrev Inv-loop : tie.InvT-loop
-Inv-loop s i starts₀ k₀ starts k = (k ≤ 65) × (starts ≡ over (tabulate (start s i) 0 k) (replicate 65 0))
+Inv-loop s i starts₀ k₀ starts k = (k ≤ 65) × (starts ≡ padded (tabulate (start s i) 0 k))
 
 abbrev μ-loop : tie.MeasureT-loop
 μ-loop s i starts₀ k₀ starts k = 65 - k
@@ -30,7 +29,7 @@ loop-again : tie.Need-loop-again Inv-loop μ-loop
 loop-again c =
     let l = c .before .before in
     let a = l .before .before .args in
-    (search needs, rw (l .loop .inv .1) (stored (start (a .s .now) (a .i)) (replicate 65 0) (l .loop .k) (c .two-at .result) (c .two-at .ensures .0) (search needs)))
+    (search needs, rw (l .loop .inv .1) (stored (start (a .s .now) (a .i)) (l .loop .k) (c .two-at .result) (c .two-at .ensures .0) (search needs)))
 
 returns : tie.Need-returns Inv-loop μ-loop
 unfolding startsAt

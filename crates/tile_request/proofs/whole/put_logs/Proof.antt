@@ -1,8 +1,8 @@
--- `frame_request::put_logs` meets its contract. Assumes nothing.
+-- `tile_request::whole::put_logs` meets its contract. Assumes nothing.
 use borrow.Author.Needs.{needs}
-use Rattle.frame_request.specs.Print.{logsText}
-use Rattle.frame_request.proofs.put_logs.Statement.{statement}
-use Rattle.frame_request.proofs.put_logs.Tie as tie
+use Rattle.tile_request.specs.Whole.{logsText}
+use Rattle.tile_request.proofs.whole.put_logs.Statement.{statement}
+use Rattle.tile_request.proofs.whole.put_logs.Tie as tie
 
 returns : tie.Need-returns
 unfolding logsText
