@@ -9,13 +9,14 @@ use native.Mathlib.Omega.{arith}
 use borrow.Author.Tests.{ltb-false}
 use lib.Dec.{ltb, eqb}
 use lib.IntN.{pos}
-use lib.ListN.{length, getD, set, replicate, length-set, getD-replicate, List·getD-eq-default}
+use lib.ListN.{length, getD, set, replicate, length-set}
 use lib.Seq.{getD-set-same, getD-set-other}
 use Rattle.getbits.specs.Bits.{getBits}
 use Rattle.getbits.specs.Chain.{then, turns}
 use Rattle.getbits.specs.declared.Place.{Place}
 use Rattle.getbits.proofs.Chain.{contrary, picked}
 use Rattle.getbits.proofs.Places.{lt-or-le}
+use Rattle.getbits.proofs.Stores.{zeros-at}
 use Rattle.seq_fields.specs.Fields.{getSmall}
 use Rattle.seq_fields.specs.declared.PixelLayout.{PixelLayout}
 use Rattle.film_grain.specs.Grain.{parseFilmGrainData}
@@ -27,17 +28,13 @@ use Rattle.film_grain.specs.declared.points.PointLists.{PointLists}
 use Rattle.film_grain.specs.declared.points.PointsRead.{PointsRead}
 use Rattle.film_grain.proofs.Answers.{neither, AcceptedWith, of-answers}
 
--- zeros
-zero-at : (k : ℕ) → _≡_ {A = ℕ} (getD (replicate 28 0) k 0) 0
-zero-at k = let none : List ℕ = replicate 28 0 in ⊎-elim (λ h. getD-replicate 28 k 0 0 h) (λ h. List·getD-eq-default none 0 h) (lt-or-le k 28)
-
 empty : PointList 0 (record { points = replicate 28 0 })
 empty =
     record {
       few = omega arith;
       rising = λ i h. absurd (omega arith);
       small = λ i h. absurd (omega arith);
-      zeros = λ i h. (zero-at (2 * i), zero-at (2 * i + 1));
+      zeros = λ i h. (zeros-at 28 (2 * i), zeros-at 28 (2 * i + 1));
     }
 
 -- i points are read, and the last has the position base
@@ -55,7 +52,7 @@ none =
       top = omega arith;
       last = λ j h. absurd (omega arith);
       rising = λ j h. absurd (omega arith);
-      zeros = λ j h. (zero-at (2 * j), zero-at (2 * j + 1));
+      zeros = λ j h. (zeros-at 28 (2 * j), zeros-at 28 (2 * j + 1));
     }
 
 -- a list with point i put

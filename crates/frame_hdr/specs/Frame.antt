@@ -188,6 +188,7 @@ FreshDemand3 s p h q r =
     → readReuse s p (frameArgs h q) q .value ≡ false
     → Demand3 s (readReuse s p (frameArgs h q) q .next) (frameArgs h q) (frameTiles r)
 
+-- of each frame's answer
 pub record FrameLayout (s : List ℕ) (p : Place) (h : FrameHeader) (q : SeqLayout) (r : FrameRead) : Type 0 where
   pub fresh : FreshDemand3 s p h q r
   -- accepted, read fresh or reused, zeros stand behind the closing entries; refused, the layout given comes back: request #107

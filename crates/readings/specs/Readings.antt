@@ -102,9 +102,9 @@ writtenResult a z =
 abbrev pub layoutFrom : TileArgs → List ℕ → TileRead
 layoutFrom a s = parseTileInfo s (placeAt 0 false) noTileInfo a
 
--- a sequence with that layout, which its frames reuse without a bit
-abbrev pub sequenceWith : TileArgs → List ℕ → SeqLayout
-sequenceWith a s =
+-- a sequence with a layout, which its frames reuse without a bit
+abbrev pub sequenceWith : TileArgs → TileInfo → SeqLayout
+sequenceWith a t =
     record {
       sb128 = a .«seq_code»;
       «max_width» = pos (a .width);
@@ -112,7 +112,7 @@ sequenceWith a s =
       level = a .level;
       tier = a .tier;
       present = On;
-      t = layoutFrom a s .info;
+      t = t;
     }
 
 -- a frame of w by h samples, over the zero layout and without data
@@ -140,18 +140,9 @@ withStarts t cols rows =
 abbrev pub oldBehind : ℕ → ℕ → List ℕ → List ℕ
 oldBehind old n edges = take (n + 1) edges ++ replicate (64 - n) old
 
--- a sequence whose record has `old` behind the closing entries of its layout
-abbrev pub oldSequence : ℕ → SeqLayout → SeqLayout
-oldSequence old q =
-    record {
-      sb128 = q .sb128;
-      «max_width» = q .«max_width»;
-      «max_height» = q .«max_height»;
-      level = q .level;
-      tier = q .tier;
-      present = q .present;
-      t = withStarts (q .t) (oldBehind old (q .t .cols) (q .t .«col_start_sb»)) (oldBehind old (q .t .rows) (q .t .«row_start_sb»));
-    }
+-- a layout with `old` behind its closing entries
+abbrev pub withOld : ℕ → TileInfo → TileInfo
+withOld old t = withStarts t (oldBehind old (t .cols) (t .«col_start_sb»)) (oldBehind old (t .rows) (t .«row_start_sb»))
 
 -- all starts of a record, with the answer's number
 abbrev pub startsResult : Answer → TileInfo → Result
@@ -163,11 +154,11 @@ unfoldable pub answerTo : Question → Result
 answerTo (layout a s) = layoutResult s (layoutFrom a s)
 answerTo (header strict s) = headerResult (parseSeqHdr s (placeAt 0 false) strict)
 answerTo (rectanglesOf a s) = then (layoutFrom a s) λ r. rectanglesResult (r .answer) (r .info) (a .«frame_code») (a .width) (a .height)
-answerTo (rectanglesReused w h a s) = then (frameIn (sequenceWith a s) Inter w h) λ r. rectanglesResult (r .answer) (r .hdr .tiling) (r .hdr .sb128) w h
+answerTo (rectanglesReused w h a s) = then (frameIn (sequenceWith a (layoutFrom a s .info)) Inter w h) λ r. rectanglesResult (r .answer) (r .hdr .tiling) (r .hdr .sb128) w h
 answerTo (written a s) = writtenResult a (layoutFrom a s)
 answerTo (readOver old a s) =
     then (parseTileInfo s (placeAt 0 false) (withStarts noTileInfo (replicate 65 old) (replicate 65 old)) a) λ r. startsResult (r .answer) (r .info)
-answerTo (reusedOver old type w h a s) = then (frameIn (oldSequence old (sequenceWith a s)) type w h) λ r. startsResult (r .answer) (r .hdr .tiling)
+answerTo (reusedOver old type w h a s) = then (frameIn (sequenceWith a (withOld old (layoutFrom a s .info))) type w h) λ r. startsResult (r .answer) (r .hdr .tiling)
 
 -- a reading: what is read, and what document 01 or the request says comes of it
 pub record Row : Type 0 where

@@ -42,10 +42,6 @@ pub low-multiplier : (f q : ℕ) → multiplierOf f q ≤ 2
 unfolding multiplierOf
 low-multiplier f q = picked (λ (m : ℕ). m ≤ 2) (eqb f 1 && eqb q 2) 2 1 (λ e. omega arith) (λ e. omega arith)
 
--- a start in the frame's superblocks, as it is stored
-pub start-fits : (m x : ℕ) → m ≤ 2 → x ≤ 1024 → m * x % 4294967296 % 65536 ≡ m * x
-start-fits m x h k = omega (arith, mul-le-mul {n₂ = 2} {m₂ = 1024} h k)
-
 -- and 1 where it is not 2
 pub not-doubled : (f q : ℕ) → eqb (multiplierOf f q) 2 ≡ false → multiplierOf f q ≡ 1
 unfolding multiplierOf
@@ -54,3 +50,7 @@ not-doubled f q e = by (eqb f 1 && eqb q 2) e
     by : (b : Bool) → eqb (pick b 2 1) 2 ≡ false → _≡_ {A = ℕ} (pick b 2 1) 1
     by true e = absurd (subst T e tt)
     by false e = refl
+
+-- a start in the frame's superblocks, as it is stored
+pub start-fits : (m x : ℕ) → m ≤ 2 → x ≤ 1024 → m * x % 4294967296 % 65536 ≡ m * x
+start-fits m x h k = omega (arith, mul-le-mul {n₂ = 2} {m₂ = 1024} h k)

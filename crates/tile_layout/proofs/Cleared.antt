@@ -7,6 +7,7 @@ use lib.Dec.{ltb}
 use lib.ListN.{length, getD}
 use Rattle.answers.specs.Numbers.{isRefusal}
 use Rattle.getbits.proofs.Chain.{picked, contrary}
+use Rattle.getbits.proofs.Stores.{zeros-at}
 use Rattle.getbits.specs.Bits.{getFlag}
 use Rattle.getbits.specs.Chain.{then}
 use Rattle.getbits.specs.declared.Place.{Place}
@@ -16,7 +17,7 @@ use Rattle.tile_layout.specs.declared.TileRead.{TileRead}
 use Rattle.tile_layout.specs.Limits.{superblocks, sbw, sbh, inDomain, noTileInfo}
 use Rattle.tile_layout.specs.Layout.{padded, tabulate, startAt, fullCount, totalCount, uniformCount, uniformEdges, startsFrom, sum, readCols, readRows, uniformInfo, uniformLayout, nonUniformInfo, nonUniformLayout, parseTileInfo}
 use Rattle.tile_layout.specs.Cleared.{Cleared, ReadOver}
-use Rattle.tile_layout.proofs.Laws.{length-tabulate, zeros-at, behind-closing}
+use Rattle.tile_layout.proofs.Laws.{length-tabulate, behind-closing}
 use Rattle.tile_layout.proofs.Sized.{length-starts}
 
 pub none-cleared : Cleared noTileInfo

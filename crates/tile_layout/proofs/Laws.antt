@@ -7,6 +7,7 @@ use native.Mathlib.Numerals.{add-one}
 use native.Mathlib.Omega.{arith}
 use lib.ListN.{length, getD, set, replicate, length-append, List·getD-append}
 use lib.Seq.{getD-at, set-at}
+use Rattle.getbits.proofs.Stores.{zeros-at}
 use Rattle.tile_layout.specs.Layout.{tabulate, padded, sum}
 
 -- one factor more
@@ -36,12 +37,7 @@ tabulate-more f i (suc n) =
 pub padded-at : (xs : List ℕ) (closing k : ℕ) → k ≤ length xs → getD (padded (xs ++ (closing ∷ []))) k 0 ≡ getD (xs ++ (closing ∷ [])) k 0
 padded-at xs closing k h = List·getD-append (xs ++ (closing ∷ [])) _ 0 k (omega (arith, length-append xs (closing ∷ [])))
 
--- zeros, and zeros behind a list
-pub zeros-at : (n k : ℕ) → _≡_ {A = ℕ} (getD (replicate n 0) k 0) 0
-zeros-at zero k = refl
-zeros-at (suc n) zero = refl
-zeros-at (suc n) (suc k) = zeros-at n k
-
+-- zeros behind a list
 zeros-behind : (n : ℕ) (xs : List ℕ) (k : ℕ) → length xs ≤ k → getD (xs ++ replicate n 0) k 0 ≡ 0
 zeros-behind n [] k h = zeros-at n k
 zeros-behind n (x ∷ xs) zero h = absurd (omega arith)
