@@ -22,21 +22,18 @@ use flat::put_masks;
 use flat::put_tile_info;
 use flat::seg_info_of;
 use flat::tile_info_of;
-use flat_hdr::put_seq_hdr;
-use frame_hdr::frame_layout;
+use frame_hdr::frame_layout_into;
+use frame_hdr::frame_type_of;
+use frame_hdr::present_of;
 use getbits::read_bits;
 use lent::is_set;
 use lent::place_of;
 use lent::put_place;
-use lent_tiles::frame_given;
-use lent_tiles::hand_back_frame;
-use lent_tiles::hand_back_tiles;
 use lent_tiles::is_known;
-use lent_tiles::seq_given;
 use rectangles::tile_rectangles;
 use seg_info::parse_seg_info;
-use seq_hdr::parse_seq_hdr;
-use tile_info::parse_tile_info;
+use seq_hdr::read_seq_hdr;
+use tile_info::parse_tile_info_into;
 
 // The number of the interface.
 const INTERFACE: u32 = 3;
@@ -114,16 +111,23 @@ pub extern "C" fn mubanlig_parse_tile_info(
         return 5;
     }
     let p = place_of(*position, *error);
-    let thdr = tile_info_of(&*info, &*col_start_sb, &*row_start_sb);
-    let r = parse_tile_info(s, p, thdr, sbmul, sb128, seq_sb128, w, h, level, tier);
-    hand_back_tiles(
-        r,
-        &mut *position,
-        &mut *error,
+    let r = parse_tile_info_into(
+        s,
+        p,
         &mut *info,
         &mut *col_start_sb,
         &mut *row_start_sb,
-    )
+        sbmul,
+        sb128,
+        seq_sb128,
+        w,
+        h,
+        level,
+        tier,
+    );
+    let answer = r.answer;
+    put_place(r.next, &mut *position, &mut *error);
+    number(answer)
 }
 
 #[no_mangle]
@@ -161,12 +165,11 @@ pub extern "C" fn mubanlig_parse_seq_hdr(
         return 5;
     }
     let p = place_of(*position, *error);
-    let r = parse_seq_hdr(s, p, is_set(strict));
+    let r = read_seq_hdr(s, p, is_set(strict), &mut *hdr);
     let answer = r.answer;
     put_place(r.next, &mut *position, &mut *error);
-    put_seq_hdr(r.hdr, &mut *hdr);
     put_tile_info(
-        r.hdr.tiling.t,
+        r.tiling.t,
         &mut *info,
         &mut *col_start_sb,
         &mut *row_start_sb,
@@ -232,36 +235,30 @@ pub extern "C" fn mubanlig_parse_tile_info_frmhdr(
         put_place(here.next, &mut *position, &mut *error);
         return 4;
     }
-    let hdr = frame_given(
-        frame_type,
+    let r = frame_layout_into(
+        s,
+        p,
+        frame_type_of(frame_type),
         width,
         height,
         *sb128,
-        &*info,
-        &*col_start_sb,
-        &*row_start_sb,
-    );
-    let seq = seq_given(
+        &mut *info,
+        &mut *col_start_sb,
+        &mut *row_start_sb,
         seq_sb128,
         max_width,
         max_height,
         level,
         tier,
-        present,
+        present_of(present),
         seq_info,
         seq_col_start_sb,
         seq_row_start_sb,
     );
-    let r = frame_layout(s, p, hdr, seq);
-    hand_back_frame(
-        r,
-        &mut *position,
-        &mut *error,
-        &mut *sb128,
-        &mut *info,
-        &mut *col_start_sb,
-        &mut *row_start_sb,
-    )
+    let answer = r.answer;
+    put_place(r.next, &mut *position, &mut *error);
+    *sb128 = r.sb128;
+    number(answer)
 }
 
 #[no_mangle]

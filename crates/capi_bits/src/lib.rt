@@ -1,10 +1,10 @@
 // The readings for Rust and C: numbers and slices only. A place is lent as the bits before it and the error.
 ghost use mathlib.Core.List.{[], _∷_};
 ghost use mathlib.Core.Path.{_≡_};
-ghost use Prim.Native.Nat.{_-_, _^_, _<_, _≤_};
+ghost use Prim.Native.Nat.{_-_};
 ghost use lib.IntN.{pos};
 ghost use lib.ListN.{length};
-ghost use Rattle.codes.specs.Codes.{bitLength, getVlc, getUniform, getRefUniform, getUleb128, getGolomb, getBitsSubexpU, getBitsSubexp};
+ghost use Rattle.codes.specs.Codes.{getVlc, getUniform, getRefUniform, getUleb128, getGolomb, getBitsSubexpU, getBitsSubexp};
 ghost use Rattle.getbits.specs.Bits.{getBit, getBits, getSbits, bytePos, byteAlign};
 ghost use Rattle.lent.specs.Lent.{placeOf, positionOf};
 ghost use Rattle.capi_bits.specs.Numbers.{lentNumber, lentSigned};
@@ -15,15 +15,15 @@ use codes::get_ref_uniform;
 use codes::get_uleb128;
 use codes::get_uniform;
 use codes::get_vlc;
+use codes::uniform_forms;
 use getbits::Number;
 use getbits::Place;
 use getbits::Signed;
 use getbits::byte_pos;
 use getbits::bytealign;
-use getbits::get_bit;
 use getbits::get_bits;
 use getbits::get_sbits;
-use getbits::look;
+use getbits::look_ahead;
 use getbits::remaining_bytes;
 use lent::place_of;
 use lent::position_of;
@@ -55,20 +55,13 @@ fn hand_back_signed(r: Signed, position: &mut usize, error: &mut u8) -> i32
     r.value
 }
 
-// The bit length of a number.
-fn bit_length(x: u32) -> u32
-    requires { ⌜ (1 ≤ x) × (x < 2 ^ 31) ⌝ }
-    ensures { λ r. ⌜ (r ≡ bitLength x) × (1 ≤ r) × (r < 32) ⌝ }
+// n bits, wherever the place is.
+fn read_bits(s: &[u8], position: &mut usize, error: &mut u8, n: i32) -> u32
+    ensures { λ r. ⌜ (r ∷ now (position .exit) ∷ now (error .exit) ∷ [])
+        ≡ lentNumber (getBits (now (s .entry)) (placeOf (now (position .entry)) (now (error .entry))) n) (now (error .entry)) ⌝ }
 {
-    32 - u32::leading_zeros(x)
-}
-
-// How many numbers below x take one bit less than its bit length l.
-fn short_ones(x: u32, l: u32) -> u32
-    requires { ⌜ (l ≡ bitLength x) × (1 ≤ x) × (x < 2 ^ 31) ⌝ }
-    ensures { λ r. ⌜ r ≡ 2 ^ l - x ⌝ }
-{
-    (1 << l) - x
+    let r = get_bits(s, place_of(*position, *error), n);
+    hand_back(r, &mut *position, &mut *error)
 }
 
 #[no_mangle]
@@ -82,8 +75,7 @@ pub extern "C" fn mubanlig_get_bit(s: &[u8], position: &mut usize, error: &mut u
         *position = std::num::wrapping_add_usize(at, 1);
         return (s[byte] as u32 >> (7 - (at % 8) as u32)) % 2;
     }
-    let r = get_bit(s, place_of(at, *error));
-    hand_back(r, &mut *position, &mut *error)
+    read_bits(s, &mut *position, &mut *error, 1)
 }
 
 #[no_mangle]
@@ -97,11 +89,10 @@ pub extern "C" fn mubanlig_get_bits(s: &[u8], position: &mut usize, error: &mut 
         if at / 8 + 8 <= s.len() {
             let width = n as u32;
             *position = std::num::wrapping_add_usize(at, width as usize);
-            return look(s, place_of(at, 0), width);
+            return look_ahead(s, place_of(at, 0), width);
         }
     }
-    let r = get_bits(s, place_of(at, *error), n);
-    hand_back(r, &mut *position, &mut *error)
+    read_bits(s, &mut *position, &mut *error, n)
 }
 
 #[no_mangle]
@@ -135,9 +126,10 @@ pub extern "C" fn mubanlig_get_uniform(
     let at = *position;
     if (2 <= max) & (max < 0x8000_0000) {
         if at / 8 + 8 <= s.len() {
-            let l = bit_length(max);
-            let m = short_ones(max, l);
-            let w = look(s, place_of(at, 0), l);
+            let f = uniform_forms(max);
+            let l = f.bits;
+            let m = f.short;
+            let w = look_ahead(s, place_of(at, 0), l);
             if w / 2 < m {
                 *position = std::num::wrapping_add_usize(at, (l - 1) as usize);
                 return w / 2;

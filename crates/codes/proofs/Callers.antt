@@ -1,5 +1,6 @@
 -- What callers may use of the readings of variable length. Assumes nothing.
-use mathlib.Core.Path.{_≡_, ap, _∙_}
+use mathlib.Core.Bool.{Bool, true, _&&_}
+use mathlib.Core.Path.{_≡_, sym, ap, _∙_}
 use mathlib.Core.Logic.{⊎-elim}
 use mathlib.Core.List.{List}
 use Prim.Native.Nat.{ℕ, zero, suc, _+_, _-_, _*_, _^_, _≤_, _<_}
@@ -8,14 +9,15 @@ use native.Mathlib.Omega.{arith}
 use borrow.Author.Tests.{ltb-true, ltb-false, leb-true, leb-false}
 use lib.Count.{leading-top}
 use lib.Dec.{leb, ltb, eqb}
+use lib.ListN.{length}
 use lib.IntN.{ℤ, natAbs}
 use lib.Pow.{pow-mono}
-use Rattle.getbits.specs.Bits.{readBits, getBit, refused, settled}
+use Rattle.getbits.specs.Bits.{bitCount, position, readBits, getBit, refused, settled}
 use Rattle.getbits.specs.Chain.{pick, then}
 use Rattle.getbits.specs.declared.Number.{Number}
 use Rattle.getbits.specs.declared.Place.{Place}
-use Rattle.getbits.proofs.Chain.{picked}
-use Rattle.getbits.proofs.Places.{lt-or-le}
+use Rattle.getbits.proofs.Chain.{both, picked}
+use Rattle.getbits.proofs.Places.{lt-or-le, pos-in}
 use Rattle.getbits.proofs.Callers.{read-lt, bit-lt}
 use Rattle.codes.specs.Codes.{plus, bitLength, getUniform, subexpFrom, invRecenter, subexpArgs, getBitsSubexpU}
 use Rattle.codes.proofs.Args.{args-known}
@@ -32,6 +34,10 @@ length-is x h k =
     let j : t .0 < 31 = pow-lt-only (t .0) 31 (lt-of-le-of-lt (t .2) k) in
     let m : suc (t .0) - 1 ≡ t .0 = omega arith in
     rw l (omega arith, omega arith, t .3, rw m (t .2))
+
+-- the same of a number that is the bit length
+pub length-at : (x l : ℕ) → l ≡ bitLength x → 1 ≤ x → x < 2 ^ 31 → (1 ≤ l) × (l < 32) × (x < 2 ^ l) × (2 ^ (l - 1) ≤ x)
+length-at x l e h k = rw e (length-is x h k)
 
 -- one of max numbers is below max
 pub uniform-lt : (s : List ℕ) (p : Place) (max : ℕ) → 1 ≤ max → getUniform s p max .value < max
@@ -87,3 +93,11 @@ subexp-u-lt s p ref n k h =
     (λ t. recenter-lt ref (r .value) n (leb-true (2 * ref) n t) (args-known ref n k a .2) (subexp-lt 33 s p n (natAbs k) 0 0 h))
     (λ _. omega arith))
     (λ _. h)
+
+-- where eight bytes are left, so are 32 bits
+pub eight-there : (s : List ℕ) (p : Place) {r : Bool} → r ≡ ltb (p .used) 8 && leb (p .byte + 8) (length s) → r ≡ true → (p .used < 8) × (p .byte + 8 ≤ length s) × (position s p + 32 ≤ bitCount s)
+eight-there s p e t =
+    let both = both (ltb (p .used) 8) (leb (p .byte + 8) (length s)) (sym e ∙ t) in
+    let u = ltb-true (p .used) 8 (both .0) in
+    let b = leb-true (p .byte + 8) (length s) (both .1) in
+    (u, b, omega (arith, pos-in s p (omega (arith, b)) u))

@@ -1,40 +1,52 @@
 // The readings of variable length, over the reader's bits.
 ghost use mathlib.Core.Path.{_≡_};
-ghost use Prim.Native.Nat.{_+_, _*_, _-_, _^_, _<_, _≤_};
+ghost use mathlib.Core.Bool.{_&&_};
+ghost use mathlib.Core.List.{List};
+ghost use Prim.Native.Nat.{ℕ, _+_, _*_, _-_, _^_, _<_, _≤_};
+ghost use lib.Dec.{ltb, leb, eqb};
 ghost use lib.IntN.{pos, _+ℤ_, _-ℤ_};
-ghost use Rattle.codes.specs.Codes.{runOf, getVlc, getUniform, getRefUniform, ulebFrom, getUleb128, getGolomb, subexpFrom, subexpArgs, getBitsSubexpU, subexpRange, getBitsSubexp, vlcIf, uniformIf};
+ghost use Rattle.codes.specs.Codes.{bitLength, runOf, getVlc, getUniform, getRefUniform, ulebFrom, getUleb128, getGolomb, subexpFrom, subexpArgs, getBitsSubexpU, subexpRange, getBitsSubexp, vlcIf, uniformIf};
+ghost use lib.ListN.{length};
+ghost use Rattle.getbits.specs.Bits.{bitCount, position, readBits, lookAt};
+ghost use Rattle.getbits.specs.declared.Place.{Place};
+ghost use Rattle.getbits.specs.Chain.{pick};
 use getbits::Number;
 use getbits::Place;
 use getbits::Signed;
 use getbits::get_bit;
 use getbits::look;
+use getbits::look_ahead;
 use getbits::power;
 use getbits::read_bits;
+use getbits::read_wide;
 use getbits::refuse;
-use getbits::remaining_bytes;
 
 mod intops;
 
 use intops::inv_recenter;
-use intops::ulog2;
 use intops::umin;
 
-// How many bits in a row are `bit`, at most `most`; the first that is not is used too.
+// The bits of w in which a run of `bit` is a run of zeros.
+fn as_zeros(w: u32, bit: u32) -> u32
+    ensures { λ r. ⌜ r ≡ pick (eqb bit 0) w (2 ^ 32 - 1 - w) ⌝ }
+{
+    if bit == 0 { w } else { !w }
+}
+
+// How many bits in a row are `bit`, at most `most`; the first that is not is used too. They are counted in one word, which has 0 for each past the
+// end, as get_bit does.
 fn run(s: &[u8], p: Place, bit: u32, most: u32) -> Number
-    requires { ⌜ most ≤ 32 ⌝ }
+    requires { ⌜ (bit < 2) × (most ≤ 32) ⌝ }
     ensures { λ r. ⌜ r ≡ runOf bit most (now (s .entry)) p ⌝ }
 {
-    let mut q = p;
-    let mut n: u32 = 0;
-    while n < most {
-        let r = get_bit(s, q);
-        q = r.next;
-        if r.value != bit {
-            return Number { value: n, next: q };
-        }
-        n += 1;
+    if most == 0 {
+        return Number { value: 0, next: p };
     }
-    Number { value: n, next: q }
+    let w = look(s, p, 32);
+    let n = umin(u32::leading_zeros(as_zeros(w, bit)), most);
+    let r = read_wide(s, p, umin(n + 1, most));
+    let next = r.next;
+    Number { value: n, next }
 }
 
 pub fn get_vlc(s: &[u8], p: Place) -> Number
@@ -57,6 +69,61 @@ pub fn get_vlc(s: &[u8], p: Place) -> Number
     }
 }
 
+// How get_uniform writes a number below max: in `bits` bits, or in one less if it is below `short`.
+pub struct Forms {
+    pub bits: u32,
+    pub short: u32,
+}
+
+pub fn uniform_forms(max: u32) -> Forms
+    ensures { λ r. ⌜ (r .bits ≡ bitLength max) × (r .short ≡ 2 ^ bitLength max - max) ⌝ }
+{
+    let bits = 32 - u32::leading_zeros(max);
+    Forms {
+        bits,
+        short: ((1u64 << bits) - max as u64) as u32,
+    }
+}
+
+// A number below max, and how many bits it takes.
+pub struct Uniform {
+    pub value: u32,
+    pub bits: u32,
+}
+
+// get_uniform out of the 32 bits behind a place, where they are all there.
+pub fn uniform_of(word: u32, max: u32) -> Uniform
+    ensures reads { λ r. ⌜ ((s : List ℕ) (p : Place) → word ≡ lookAt s p 32 → position s p + 32 ≤ bitCount s → 1 ≤ max → max < 2 ^ 31
+        → (r .value ≡ getUniform s p max .value) × (readBits s p (r .bits) .next ≡ getUniform s p max .next)) ⌝ }
+    ensures most { λ r. ⌜ r .bits ≤ 32 ⌝ }
+{
+    let f = uniform_forms(max);
+    let w = (word as u64 >> (32 - f.bits)) as u32;
+    if w / 2 < f.short {
+        return Uniform {
+            value: w / 2,
+            bits: less_one(f.bits),
+        };
+    }
+    Uniform {
+        value: w - f.short,
+        bits: f.bits,
+    }
+}
+
+// Are eight bytes left? So many that no number runs out.
+pub fn eight_left(s: &[u8], p: Place) -> bool
+    ensures { λ r. ⌜ r ≡ ltb (p .used) 8 && leb (p .byte + 8) (length (now (s .entry))) ⌝ }
+{
+    if 8 <= p.used {
+        return false;
+    }
+    if s.len() < 8 {
+        return false;
+    }
+    p.byte <= s.len() - 8
+}
+
 pub fn get_uniform(s: &[u8], p: Place, max: u32) -> Number
     ensures { λ r. ⌜ r ≡ getUniform (now (s .entry)) p max ⌝ }
 {
@@ -66,20 +133,18 @@ pub fn get_uniform(s: &[u8], p: Place, max: u32) -> Number
     if 0x8000_0000 <= max {
         return refuse(s, p);
     }
-    let l = ulog2(max) + 1;
-    let m = power(l) - max;
-    // Where four bytes are left, the l bits of the longer form are there, and are looked at once.
-    if 4 <= remaining_bytes(s, p) {
-        let w = look(s, p, l);
-        if w / 2 < m {
-            let r = read_bits(s, p, l - 1);
-            let next = r.next;
-            return Number { value: w / 2, next };
-        }
-        let r = read_bits(s, p, l);
+    if eight_left(s, p) {
+        let u = uniform_of(look_ahead(s, p, 32), max);
+        let r = read_bits(s, p, u.bits);
         let next = r.next;
-        return Number { value: w - m, next };
+        return Number {
+            value: u.value,
+            next,
+        };
     }
+    let f = uniform_forms(max);
+    let l = f.bits;
+    let m = f.short;
     let r = read_bits(s, p, l - 1);
     let v = r.value;
     let q = r.next;

@@ -9,9 +9,8 @@ use Rattle.getbits.specs.declared.Place.{Place}
 use Rattle.getbits.proofs.Chain.{contrary, picked}
 use Rattle.seq_fields.specs.declared.PixelLayout.{PixelLayout}
 use Rattle.film_grain.specs.Grain.{refusedGrain, oneListEmpty, grainFields, parseFilmGrainData}
-use Rattle.film_grain.specs.Points.{pointLists}
+use Rattle.film_grain.specs.Points.{PointLists, pointLists}
 use Rattle.film_grain.specs.declared.FilmGrainRead.{FilmGrainRead}
-use Rattle.film_grain.specs.declared.points.PointLists.{PointLists}
 
 pub neither : (a b : Bool) → a || b ≡ false → (a ≡ false) × (b ≡ false)
 neither true b e = contrary refl e

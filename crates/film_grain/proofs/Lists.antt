@@ -20,12 +20,10 @@ use Rattle.getbits.proofs.Stores.{zeros-at}
 use Rattle.seq_fields.specs.Fields.{getSmall}
 use Rattle.seq_fields.specs.declared.PixelLayout.{PixelLayout}
 use Rattle.film_grain.specs.Grain.{parseFilmGrainData}
-use Rattle.film_grain.specs.Points.{noPoints, point, pointsFrom, planePoints, pointsIf, pointLists}
+use Rattle.film_grain.specs.Points.{PointLists, PointsRead, noPoints, point, pointsFrom, planePoints, pointsIf, pointLists}
 use Rattle.film_grain.specs.Promises.{positionAt, valueAt, PointList, GrainLists}
 use Rattle.film_grain.specs.declared.FilmGrainRead.{FilmGrainRead}
 use Rattle.film_grain.specs.declared.PlanePoints.{PlanePoints}
-use Rattle.film_grain.specs.declared.points.PointLists.{PointLists}
-use Rattle.film_grain.specs.declared.points.PointsRead.{PointsRead}
 use Rattle.film_grain.proofs.Answers.{neither, AcceptedWith, of-answers}
 
 empty : PointList 0 (record { points = replicate 28 0 })

@@ -6,8 +6,7 @@ use Prim.Native.Nat.{ℕ, zero, suc, _+_}
 use native.Mathlib.Nat.{add-zero, add-suc}
 use Rattle.getbits.specs.Chain.{turns}
 use Rattle.getbits.proofs.Chain.{taken}
-use Rattle.film_grain.specs.Points.{point}
-use Rattle.film_grain.specs.declared.points.PointsRead.{PointsRead}
+use Rattle.film_grain.specs.Points.{PointsRead, point}
 
 stops : {A : Type 0} (f : ℕ → A → A) (a : A) (i k : ℕ) → ((j : ℕ) → f j (turns i f a) ≡ turns i f a) → turns (i + k) f a ≡ turns i f a
 unfolding turns

@@ -2,22 +2,35 @@
 use Prim.Native.Nat.{ℕ, _+_, _-_, _*_, _^_}
 use mathlib.Core.Bool.{Bool, true, false, _||_}
 use mathlib.Core.List.{List, [], _∷_}
-use lib.IntN.{pos, _-ℤ_}
+use lib.IntN.{ℤ, pos, _-ℤ_}
 use lib.ListN.{getD, set, replicate}
 use Rattle.getbits.specs.Bits.{getBits}
 use Rattle.getbits.specs.Chain.{then, turns}
 use Rattle.getbits.specs.declared.Place.{Place}
 use Rattle.seq_fields.specs.Fields.{getSmall, bitOf}
 use Rattle.film_grain.specs.Points.{hasPoints}
+use Rattle.film_grain.specs.declared.PlaneCoeffs.{PlaneCoeffs}
 use Rattle.film_grain.specs.declared.coeffs.ChromaOffsets.{ChromaOffsets}
-use Rattle.film_grain.specs.declared.coeffs.CoeffLists.{CoeffLists}
-use Rattle.film_grain.specs.declared.coeffs.CoeffsRead.{CoeffsRead}
 use Rattle.film_grain.specs.declared.coeffs.Less.{Less}
 use Rattle.film_grain.specs.declared.coeffs.OffsetsRead.{OffsetsRead}
+
+-- the coefficients of a plane
+pub record CoeffsRead : Type 0 where
+  pub list : PlaneCoeffs
+  pub next : Place
+
+-- the coefficients of the planes
+pub record CoeffLists : Type 0 where
+  pub «ar_coeffs» : List PlaneCoeffs
+  pub next : Place
 
 -- n bits less a number
 unfoldable pub bitsLess : List ℕ → Place → ℕ → ℕ → Less
 bitsLess s p n less = then (getBits s p (pos n)) λ r. record { value = pos (r .value) -ℤ pos less; next = r .next }
+
+-- a plane's coefficients that stand in lent bytes
+abbrev pub lentCoeffs : List ℤ → Place → CoeffsRead
+lentCoeffs coeffs p = record { list = record { coeffs = coeffs }; next = p }
 
 -- a plane's coefficients of which none is read: zeros
 abbrev pub noCoeffs : Place → CoeffsRead
@@ -41,6 +54,10 @@ coeffsIf false s p n = noCoeffs p
 -- how many coefficients a lag gives
 abbrev pub numPos : ℕ → ℕ
 numPos lag = 2 * lag * (lag + 1)
+
+-- the coefficients of luma and of both chroma planes, out of three lists
+abbrev pub coeffLists : List ℤ → List ℤ → List ℤ → List PlaneCoeffs
+coeffLists y u v = record { coeffs = y } ∷ record { coeffs = u } ∷ record { coeffs = v } ∷ []
 
 -- the coefficients of the planes: luma's if it has points; a chroma plane's if it has points or is scaled from luma, and one more of them if
 -- luma has points

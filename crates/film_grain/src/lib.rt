@@ -1,6 +1,10 @@
 // Film grain parameters: the Rust's parse_film_grain_data.
 ghost use mathlib.Core.Path.{_≡_};
-ghost use Rattle.film_grain.specs.Grain.{noFilmGrain, refusedGrain, isI420, oneListEmpty, grainFields, parseFilmGrainData};
+ghost use lib.IntN.{pos};
+ghost use lib.ListN.{replicate};
+ghost use Rattle.film_grain.specs.Coeffs.{coeffLists};
+ghost use Rattle.film_grain.specs.Grain.{noFilmGrain, refusedGrain, isI420, oneListEmpty, grainFields, grainRead, parseFilmGrainData};
+ghost use Rattle.film_grain.specs.Points.{PointLists};
 ghost use Rattle.film_grain.specs.Promises.{GrainLists};
 use answers::Answer;
 use getbits::Place;
@@ -10,12 +14,12 @@ use seq_fields::PixelLayout;
 use seq_fields::get_small;
 use seq_fields::is_mono;
 
+mod ahead;
 mod coeffs;
 mod points;
 
 use coeffs::chroma_offsets;
 use coeffs::plane_coeffs;
-use points::PointLists;
 use points::has_points;
 use points::point_lists;
 
@@ -51,6 +55,22 @@ pub struct FilmGrainData {
 pub struct FilmGrainRead {
     pub answer: Answer,
     pub fgd: FilmGrainData,
+    pub next: Place,
+}
+
+// The fields behind the point lists, but for the coefficients, and the place after them.
+pub struct GrainFields {
+    pub scaling_shift: u8,
+    pub ar_coeff_lag: u8,
+    pub ar_coeff_shift: u8,
+    pub grain_scale_shift: u8,
+    pub uv_mult: [i16; 2],
+    pub uv_luma_mult: [i16; 2],
+    pub uv_offset: [i16; 2],
+    pub overlap_flag: bool,
+    pub clip_to_restricted_range: bool,
+    pub mc_identity: bool,
+    pub block_size: u8,
     pub next: Place,
 }
 
@@ -111,16 +131,33 @@ fn one_list_empty(layout: PixelLayout, num_points: [u8; 3]) -> bool
     is_i420(layout) & ((u & !v) | (!u & v))
 }
 
-// The fields behind the point lists.
-fn read_fields(s: &[u8], from_luma: bool, lists: PointLists) -> FilmGrainRead
-    ensures { λ r. ⌜ r ≡ grainFields «from_luma» (now (s .entry)) lists ⌝ }
+// The fields behind the point lists; the coefficients go into lent bytes.
+fn read_fields(
+    s: &[u8],
+    p: Place,
+    from_luma: bool,
+    num_points: [u8; 3],
+    y_coeffs: &mut [i8],
+    u_coeffs: &mut [i8],
+    v_coeffs: &mut [i8],
+) -> GrainFields
+    requires { ⌜ (now «y_coeffs» ≡ replicate 28 (pos 0)) × (now «u_coeffs» ≡ replicate 28 (pos 0)) × (now «v_coeffs» ≡ replicate 28 (pos 0)) ⌝ }
+    ensures { λ r. ⌜ ((lists : PointLists) → lists .«num_points» ≡ «num_points» → lists .next ≡ p → grainFields «from_luma» (now (s .entry)) lists
+        ≡ grainRead «from_luma» «num_points» (lists .points) (coeffLists (now («y_coeffs» .exit)) (now («u_coeffs» .exit)) (now («v_coeffs» .exit))) r) ⌝ }
 {
-    let num_points = lists.num_points;
-    let points = lists.points;
-    let scaling = get_small(s, lists.next, 2);
+    let scaling = get_small(s, p, 2);
     let lag = get_small(s, scaling.next, 2);
-    let coeffs = plane_coeffs(s, lag.next, from_luma, num_points, lag.value);
-    let shift = get_small(s, coeffs.next, 2);
+    let coeffs_end = plane_coeffs(
+        s,
+        lag.next,
+        from_luma,
+        num_points,
+        lag.value,
+        &mut *y_coeffs,
+        &mut *u_coeffs,
+        &mut *v_coeffs,
+    );
+    let shift = get_small(s, coeffs_end, 2);
     let scale = get_small(s, shift.next, 2);
     let uv = chroma_offsets(s, scale.next, num_points);
     let overlap = get_flag(s, uv.next);
@@ -128,32 +165,21 @@ fn read_fields(s: &[u8], from_luma: bool, lists: PointLists) -> FilmGrainRead
     let identity = flag_if(s, clip.next, clip.value);
     let block = get_small(s, identity.next, 1);
     let next = block.next;
-    if next.error {
-        return refuse_grain(next);
-    }
-    let ar_coeffs = coeffs.ar_coeffs;
     let uv_mult = uv.uv_mult;
     let uv_luma_mult = uv.uv_luma_mult;
     let uv_offset = uv.uv_offset;
-    FilmGrainRead {
-        answer: Answer::Accepted,
-        fgd: FilmGrainData {
-            chroma_scaling_from_luma: from_luma,
-            num_points,
-            points,
-            scaling_shift: 8 + scaling.value,
-            ar_coeff_lag: lag.value,
-            ar_coeffs,
-            ar_coeff_shift: 6 + shift.value,
-            grain_scale_shift: scale.value,
-            uv_mult,
-            uv_luma_mult,
-            uv_offset,
-            overlap_flag: overlap.value,
-            clip_to_restricted_range: clip.value,
-            mc_identity: identity.value,
-            block_size: block.value,
-        },
+    GrainFields {
+        scaling_shift: 8 + scaling.value,
+        ar_coeff_lag: lag.value,
+        ar_coeff_shift: 6 + shift.value,
+        grain_scale_shift: scale.value,
+        uv_mult,
+        uv_luma_mult,
+        uv_offset,
+        overlap_flag: overlap.value,
+        clip_to_restricted_range: clip.value,
+        mc_identity: identity.value,
+        block_size: block.value,
         next,
     }
 }
@@ -164,10 +190,65 @@ pub fn parse_film_grain_data(s: &[u8], p: Place, layout: PixelLayout) -> FilmGra
 {
     let chroma = !is_mono(layout);
     let from_luma = flag_if(s, p, chroma);
-    let lists = point_lists(s, from_luma.next, chroma & !from_luma.value);
+    let mut y_points = [0u8; 28];
+    let mut u_points = [0u8; 28];
+    let mut v_points = [0u8; 28];
+    let lists = point_lists(
+        s,
+        from_luma.next,
+        chroma & !from_luma.value,
+        &mut y_points,
+        &mut u_points,
+        &mut v_points,
+    );
     let num_points = lists.num_points;
     if lists.refused | one_list_empty(layout, num_points) {
         return refuse_grain(lists.next);
     }
-    read_fields(s, from_luma.value, lists)
+    let mut y_coeffs = [0i8; 28];
+    let mut u_coeffs = [0i8; 28];
+    let mut v_coeffs = [0i8; 28];
+    let fields = read_fields(
+        s,
+        lists.next,
+        from_luma.value,
+        num_points,
+        &mut y_coeffs,
+        &mut u_coeffs,
+        &mut v_coeffs,
+    );
+    let next = fields.next;
+    if next.error {
+        return refuse_grain(next);
+    }
+    let y_points = PlanePoints { points: y_points };
+    let u_points = PlanePoints { points: u_points };
+    let v_points = PlanePoints { points: v_points };
+    let y_coeffs = PlaneCoeffs { coeffs: y_coeffs };
+    let u_coeffs = PlaneCoeffs { coeffs: u_coeffs };
+    let v_coeffs = PlaneCoeffs { coeffs: v_coeffs };
+    let uv_mult = fields.uv_mult;
+    let uv_luma_mult = fields.uv_luma_mult;
+    let uv_offset = fields.uv_offset;
+    FilmGrainRead {
+        answer: Answer::Accepted,
+        fgd: FilmGrainData {
+            chroma_scaling_from_luma: from_luma.value,
+            num_points,
+            points: [y_points, u_points, v_points],
+            scaling_shift: fields.scaling_shift,
+            ar_coeff_lag: fields.ar_coeff_lag,
+            ar_coeffs: [y_coeffs, u_coeffs, v_coeffs],
+            ar_coeff_shift: fields.ar_coeff_shift,
+            grain_scale_shift: fields.grain_scale_shift,
+            uv_mult,
+            uv_luma_mult,
+            uv_offset,
+            overlap_flag: fields.overlap_flag,
+            clip_to_restricted_range: fields.clip_to_restricted_range,
+            mc_identity: fields.mc_identity,
+            block_size: fields.block_size,
+        },
+        next,
+    }
 }

@@ -3,7 +3,7 @@ use Prim.Native.Nat.{ℕ}
 use mathlib.Core.Bool.{Bool, _&&_}
 use mathlib.Core.List.{List, [], _∷_, _++_}
 use lib.Dec.{leb}
-use lib.ListN.{length, getD, take, drop}
+use lib.ListN.{length, getD, take, drop, replicate}
 use Rattle.getbits.specs.Chain.{pick}
 use Rattle.lent.specs.Lent.{isSet}
 use Rattle.seq_fields.specs.Fields.{bitOf}
@@ -47,6 +47,10 @@ putLayout t b =
     pick (hasRoom b)
     (buffers (layoutBytes t ++ drop 9 (b .bytes)) (t .«col_start_sb» ++ drop 65 (b .col-starts)) (t .«row_start_sb» ++ drop 65 (b .row-starts)))
     b
+
+-- the starts in a buffer; where it lacks room, zeros
+abbrev pub startsIn : List ℕ → List ℕ
+startsIn xs = pick (leb 65 (length xs)) (take 65 xs) (replicate 65 0)
 
 -- the layout in its buffers; where one lacks room, the zero layout
 unfoldable pub layoutIn : Buffers → TileInfo

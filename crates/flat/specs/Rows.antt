@@ -1,4 +1,4 @@
--- Rows of numbers in a buffer. No public contract cites it.
+-- Rows of numbers in a buffer.
 use mathlib.Core.Path.{_≡_}
 use mathlib.Core.List.{List, _++_}
 use Prim.Native.Nat.{ℕ, _+_}

@@ -1,10 +1,11 @@
 // Records in lent buffers: a tile layout and the features of the segments.
 ghost use mathlib.Core.Bool.{true};
-ghost use mathlib.Core.List.{_++_};
+ghost use mathlib.Core.List.{[], _∷_};
 ghost use mathlib.Core.Path.{_≡_};
 ghost use Prim.Native.Nat.{_≤_};
-ghost use lib.ListN.{length, drop};
-ghost use Rattle.flat.specs.Layout.{overFront, buffers, hasRoom, layoutBytes, putLayout, layoutIn};
+ghost use lib.ListN.{length, replicate};
+ghost use Rattle.flat.specs.Layout.{overFront, buffers, hasRoom, putLayout, startsIn, layoutIn};
+ghost use Rattle.seq_fields.specs.Fields.{bitOf};
 ghost use Rattle.flat.specs.Segments.{flatMasks, segInfoOf};
 use lent::is_set;
 use seg_info::SegmentationDataSet;
@@ -26,19 +27,50 @@ pub fn has_room(info: &[u8], cols: &[u16], rows: &[u16]) -> bool
     (9 <= info.len()) & ((65 <= cols.len()) & (65 <= rows.len()))
 }
 
-fn put_layout_bytes(t: TileInfo, info: &mut [u8])
-    requires { ⌜ 9 ≤ length (now info) ⌝ }
-    ensures { λ _. ⌜ now (info .exit) ≡ layoutBytes t ++ drop 9 (now (info .entry)) ⌝ }
+// The nine bytes of a layout: the flag and the eight numbers.
+pub fn put_layout_bytes(
+    info: &mut [u8],
+    uniform: bool,
+    min_log2_cols: u8,
+    max_log2_cols: u8,
+    log2_cols: u8,
+    cols: u8,
+    min_log2_rows: u8,
+    max_log2_rows: u8,
+    log2_rows: u8,
+    rows: u8,
+)
+    ensures { λ _. ⌜ now (info .exit) ≡ overFront 9 (bitOf uniform ∷ «min_log2_cols» ∷ «max_log2_cols» ∷ «log2_cols» ∷ cols
+        ∷ «min_log2_rows» ∷ «max_log2_rows» ∷ «log2_rows» ∷ rows ∷ []) (now (info .entry)) ⌝ }
 {
-    info[0] = t.uniform as u8;
-    info[1] = t.min_log2_cols;
-    info[2] = t.max_log2_cols;
-    info[3] = t.log2_cols;
-    info[4] = t.cols;
-    info[5] = t.min_log2_rows;
-    info[6] = t.max_log2_rows;
-    info[7] = t.log2_rows;
-    info[8] = t.rows;
+    if info.len() < 9 {
+        return;
+    }
+    info[0] = uniform as u8;
+    info[1] = min_log2_cols;
+    info[2] = max_log2_cols;
+    info[3] = log2_cols;
+    info[4] = cols;
+    info[5] = min_log2_rows;
+    info[6] = max_log2_rows;
+    info[7] = log2_rows;
+    info[8] = rows;
+}
+
+pub fn put_starts(out: &mut [u16], starts: &[u16; 65])
+    ensures { λ _. ⌜ now (out .exit) ≡ overFront 65 (now (starts .entry)) (now (out .entry)) ⌝ }
+{
+    if out.len() < 65 {
+        return;
+    }
+    copy_starts(&mut *out, starts);
+}
+
+pub fn clear_starts(out: &mut [u16])
+    ensures { λ _. ⌜ now (out .exit) ≡ overFront 65 (replicate 65 0) (now (out .entry)) ⌝ }
+{
+    let none = [0u16; 65];
+    put_starts(&mut *out, &none);
 }
 
 pub fn put_tile_info(t: TileInfo, info: &mut [u8], cols: &mut [u16], rows: &mut [u16])
@@ -50,10 +82,31 @@ pub fn put_tile_info(t: TileInfo, info: &mut [u8], cols: &mut [u16], rows: &mut 
     if has_room(&*info, &*cols, &*rows) {
         let col_start_sb = t.col_start_sb;
         let row_start_sb = t.row_start_sb;
-        put_layout_bytes(t, &mut *info);
-        copy_starts(&mut *cols, &col_start_sb);
-        copy_starts(&mut *rows, &row_start_sb);
+        put_layout_bytes(
+            &mut *info,
+            t.uniform,
+            t.min_log2_cols,
+            t.max_log2_cols,
+            t.log2_cols,
+            t.cols,
+            t.min_log2_rows,
+            t.max_log2_rows,
+            t.log2_rows,
+            t.rows,
+        );
+        put_starts(&mut *cols, &col_start_sb);
+        put_starts(&mut *rows, &row_start_sb);
     }
+}
+
+// The starts in a buffer that has room; else zeros.
+pub fn starts_in(xs: &[u16]) -> [u16; 65]
+    ensures { λ r. ⌜ r ≡ startsIn (now (xs .entry)) ⌝ }
+{
+    if xs.len() < 65 {
+        return [0u16; 65];
+    }
+    starts_of(xs)
 }
 
 // The layout in buffers that have room.

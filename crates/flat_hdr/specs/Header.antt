@@ -1,7 +1,7 @@
 -- A sequence header as flat numbers: each record's fields in the order of its declaration, depth first.
 -- Its layout stands in buffers of its own.
 use Prim.Native.Nat.{ℕ}
-use mathlib.Core.Bool.{false}
+use mathlib.Core.Bool.{Bool, false}
 use mathlib.Core.List.{List, [], _∷_, _++_, map}
 use lib.IntN.{ℤ, pos}
 use lib.ListN.{getD}
@@ -184,6 +184,10 @@ flatFilters f =
     ∷ getD (f .«rst_disable_mask») 1 0 ∷ bitOf (f .ccso) ∷ bitOf (f .«ccso_unit_matches_sbsz»)
     ∷ adaptiveNumber (f .«cdef_on_skiptx») ∷ f .«df_par_bits» ∷ [])
 
+-- whether there is a layout, and film grain
+abbrev pub flatLast : AdaptiveBoolean → Bool → List ℤ
+flatLast present grain = asSigned (adaptiveNumber present ∷ bitOf grain ∷ [])
+
 -- the whole header without its layout, 146 numbers
 unfoldable pub flatSeqHdr : SequenceHeader → List ℤ
 flatSeqHdr hdr = flatStart (hdr .start)
@@ -195,4 +199,4 @@ flatSeqHdr hdr = flatStart (hdr .start)
     ++ flatInter (hdr .inter)
     ++ flatResidual (hdr .residual)
     ++ flatFilters (hdr .filters)
-    ++ asSigned (adaptiveNumber (hdr .tiling .present) ∷ bitOf (hdr .«film_grain_present») ∷ [])
+    ++ flatLast (hdr .tiling .present) (hdr .«film_grain_present»)

@@ -1,12 +1,15 @@
 // A sequence header as flat numbers: each record in the order of its declaration. Its layout stands in buffers of its own.
+// A part is put where it stands in a buffer for all 146 numbers; a shorter buffer stays as it was.
 ghost use mathlib.Core.List.{_++_};
 ghost use mathlib.Core.Path.{_≡_};
 ghost use Prim.Native.Nat.{_+_, _≤_};
-ghost use lib.ListN.{length};
+ghost use lib.IntN.{pos};
+ghost use lib.ListN.{length, replicate};
 ghost use Rattle.flat.specs.Layout.{overFront};
 ghost use Rattle.flat.specs.Rows.{PutAt};
 ghost use Rattle.flat.specs.Segments.{flatMasks};
-ghost use Rattle.flat_hdr.specs.Header.{asSigned, layoutNumber, adaptiveNumber, flatSeqHdr};
+ghost use Rattle.flat_hdr.specs.Header.{asSigned, layoutNumber, adaptiveNumber, flatLast, flatSeqHdr};
+ghost use Rattle.flat_hdr.specs.Rows.{PutIn};
 ghost use Rattle.flat_hdr.specs.Header.{flatStart, flatLevel, flatFormat, flatLayers, flatSize, flatCrop, flatDependencies, flatPicture};
 ghost use Rattle.flat_hdr.specs.Header.{flatPartition, flatSegmentation, flatIntra, flatBlocks, flatMotion, flatRefFrames};
 ghost use Rattle.flat_hdr.specs.Header.{flatDrl, flatTip, flatMv, flatScreen, flatInter, flatTransform, flatEntropy, flatQuant, flatResidual, flatFilters};
@@ -67,10 +70,12 @@ fn adaptive_number(a: AdaptiveBoolean) -> u8
     }
 }
 
-fn put_head(out: &mut [i64], at: usize, start: Start, level: Level, format: Format) -> usize
-    requires { ⌜ at + 9 ≤ length (now out) ⌝ }
-    ensures { λ r. ⌜ PutAt (now (out .entry)) at (flatStart start ++ flatLevel level ++ flatFormat format) 9 (now (out .exit)) r ⌝ }
+pub fn put_head(out: &mut [i64], start: Start, level: Level, format: Format)
+    ensures { λ _. ⌜ PutIn (now (out .entry)) 0 (flatStart start ++ flatLevel level ++ flatFormat format) 9 (now (out .exit)) ⌝ }
 {
+    if out.len() < 146 {
+        return;
+    }
     let layout = format.layout;
     let xs: [u8; 9] = [
         start.id,
@@ -83,7 +88,7 @@ fn put_head(out: &mut [i64], at: usize, start: Start, level: Level, format: Form
         format.ss_ver,
         format.hbd,
     ];
-    put_bytes(&mut *out, at, &xs)
+    put_bytes(&mut *out, 0, &xs);
 }
 
 fn put_layers(out: &mut [i64], at: usize, l: Layers) -> usize
@@ -136,14 +141,16 @@ fn put_dependencies(out: &mut [i64], at: usize, d: Dependencies) -> usize
     put_bytes(&mut *out, at, &mlayer)
 }
 
-fn put_picture(out: &mut [i64], at: usize, p: Picture) -> usize
-    requires { ⌜ at + 32 ≤ length (now out) ⌝ }
-    ensures { λ r. ⌜ PutAt (now (out .entry)) at (flatPicture p) 32 (now (out .exit)) r ⌝ }
+pub fn put_picture(out: &mut [i64], p: Picture)
+    ensures { λ _. ⌜ PutIn (now (out .entry)) 9 (flatPicture p) 32 (now (out .exit)) ⌝ }
 {
-    let at = put_layers(&mut *out, at, p.layers);
+    if out.len() < 146 {
+        return;
+    }
+    let at = put_layers(&mut *out, 9, p.layers);
     let at = put_size(&mut *out, at, p.size);
     let at = put_crop(&mut *out, at, p.crop);
-    put_dependencies(&mut *out, at, p.dependencies)
+    put_dependencies(&mut *out, at, p.dependencies);
 }
 
 fn put_partition(out: &mut [i64], at: usize, p: Partition) -> usize
@@ -198,19 +205,23 @@ fn put_intra(out: &mut [i64], at: usize, i: Intra) -> usize
     put_bytes(&mut *out, at, &xs)
 }
 
-fn put_blocks(out: &mut [i64], at: usize, b: Blocks) -> usize
-    requires { ⌜ at + 35 ≤ length (now out) ⌝ }
-    ensures { λ r. ⌜ PutAt (now (out .entry)) at (flatBlocks b) 35 (now (out .exit)) r ⌝ }
+pub fn put_blocks(out: &mut [i64], b: Blocks)
+    ensures { λ _. ⌜ PutIn (now (out .entry)) 41 (flatBlocks b) 35 (now (out .exit)) ⌝ }
 {
-    let at = put_partition(&mut *out, at, b.partition);
+    if out.len() < 146 {
+        return;
+    }
+    let at = put_partition(&mut *out, 41, b.partition);
     let at = put_segmentation(&mut *out, at, b.segmentation);
-    put_intra(&mut *out, at, b.intra)
+    put_intra(&mut *out, at, b.intra);
 }
 
-fn put_motion(out: &mut [i64], at: usize, motion: Motion, refs: RefFrames) -> usize
-    requires { ⌜ at + 12 ≤ length (now out) ⌝ }
-    ensures { λ r. ⌜ PutAt (now (out .entry)) at (flatMotion motion ++ flatRefFrames refs) 12 (now (out .exit)) r ⌝ }
+pub fn put_motion(out: &mut [i64], motion: Motion, refs: RefFrames)
+    ensures { λ _. ⌜ PutIn (now (out .entry)) 76 (flatMotion motion ++ flatRefFrames refs) 12 (now (out .exit)) ⌝ }
 {
+    if out.len() < 146 {
+        return;
+    }
     let xs: [u8; 12] = [
         motion.motion_modes,
         motion.frame_motion_modes_present as u8,
@@ -225,7 +236,7 @@ fn put_motion(out: &mut [i64], at: usize, motion: Motion, refs: RefFrames) -> us
         refs.ref_frames,
         refs.ref_frames_log2,
     ];
-    put_bytes(&mut *out, at, &xs)
+    put_bytes(&mut *out, 76, &xs);
 }
 
 fn put_drl(out: &mut [i64], at: usize, d: Drl) -> usize
@@ -291,14 +302,16 @@ fn put_screen(out: &mut [i64], at: usize, s: Screen) -> usize
     put_bytes(&mut *out, at, &xs)
 }
 
-fn put_inter(out: &mut [i64], at: usize, i: Inter) -> usize
-    requires { ⌜ at + 25 ≤ length (now out) ⌝ }
-    ensures { λ r. ⌜ PutAt (now (out .entry)) at (flatInter i) 25 (now (out .exit)) r ⌝ }
+pub fn put_inter(out: &mut [i64], i: Inter)
+    ensures { λ _. ⌜ PutIn (now (out .entry)) 88 (flatInter i) 25 (now (out .exit)) ⌝ }
 {
-    let at = put_drl(&mut *out, at, i.drl);
+    if out.len() < 146 {
+        return;
+    }
+    let at = put_drl(&mut *out, 88, i.drl);
     let at = put_tip(&mut *out, at, i.tip);
     let at = put_mv(&mut *out, at, i.mv);
-    put_screen(&mut *out, at, i.screen)
+    put_screen(&mut *out, at, i.screen);
 }
 
 fn put_transform(out: &mut [i64], at: usize, t: Transform) -> usize
@@ -350,19 +363,23 @@ fn put_quant(out: &mut [i64], at: usize, q: Quant) -> usize
     put_bytes(&mut *out, at, &rest)
 }
 
-fn put_residual(out: &mut [i64], at: usize, x: Residual) -> usize
-    requires { ⌜ at + 20 ≤ length (now out) ⌝ }
-    ensures { λ r. ⌜ PutAt (now (out .entry)) at (flatResidual x) 20 (now (out .exit)) r ⌝ }
+pub fn put_residual(out: &mut [i64], x: Residual)
+    ensures { λ _. ⌜ PutIn (now (out .entry)) 113 (flatResidual x) 20 (now (out .exit)) ⌝ }
 {
-    let at = put_transform(&mut *out, at, x.transform);
+    if out.len() < 146 {
+        return;
+    }
+    let at = put_transform(&mut *out, 113, x.transform);
     let at = put_entropy(&mut *out, at, x.entropy);
-    put_quant(&mut *out, at, x.quant)
+    put_quant(&mut *out, at, x.quant);
 }
 
-fn put_filters(out: &mut [i64], at: usize, f: Filters) -> usize
-    requires { ⌜ at + 11 ≤ length (now out) ⌝ }
-    ensures { λ r. ⌜ PutAt (now (out .entry)) at (flatFilters f) 11 (now (out .exit)) r ⌝ }
+pub fn put_filters(out: &mut [i64], f: Filters)
+    ensures { λ _. ⌜ PutIn (now (out .entry)) 133 (flatFilters f) 11 (now (out .exit)) ⌝ }
 {
+    if out.len() < 146 {
+        return;
+    }
     let rst_disable_mask = f.rst_disable_mask;
     let cdef_on_skiptx = f.cdef_on_skiptx;
     let xs: [u8; 11] = [
@@ -378,31 +395,44 @@ fn put_filters(out: &mut [i64], at: usize, f: Filters) -> usize
         adaptive_number(cdef_on_skiptx),
         f.df_par_bits,
     ];
-    put_bytes(&mut *out, at, &xs)
+    put_bytes(&mut *out, 133, &xs);
 }
 
-fn put_header(out: &mut [i64], at: usize, hdr: SequenceHeader) -> usize
-    requires { ⌜ at + 146 ≤ length (now out) ⌝ }
-    ensures { λ r. ⌜ PutAt (now (out .entry)) at (flatSeqHdr hdr) 146 (now (out .exit)) r ⌝ }
+pub fn put_last(out: &mut [i64], present: AdaptiveBoolean, film_grain_present: bool)
+    ensures { λ _. ⌜ PutIn (now (out .entry)) 144 (flatLast present «film_grain_present») 2 (now (out .exit)) ⌝ }
 {
-    let tiling = hdr.tiling;
-    let present = tiling.present;
-    let last: [u8; 2] = [adaptive_number(present), hdr.film_grain_present as u8];
-    let at = put_head(&mut *out, at, hdr.start, hdr.level, hdr.format);
-    let at = put_picture(&mut *out, at, hdr.picture);
-    let at = put_blocks(&mut *out, at, hdr.blocks);
-    let at = put_motion(&mut *out, at, hdr.motion, hdr.refs);
-    let at = put_inter(&mut *out, at, hdr.inter);
-    let at = put_residual(&mut *out, at, hdr.residual);
-    let at = put_filters(&mut *out, at, hdr.filters);
-    put_bytes(&mut *out, at, &last)
+    if out.len() < 146 {
+        return;
+    }
+    let xs: [u8; 2] = [adaptive_number(present), film_grain_present as u8];
+    put_bytes(&mut *out, 144, &xs);
 }
 
 pub fn put_seq_hdr(hdr: SequenceHeader, out: &mut [i64])
     ensures { λ _. ⌜ now (out .exit) ≡ overFront 146 (flatSeqHdr hdr) (now (out .entry)) ⌝ }
 {
+    let tiling = hdr.tiling;
+    let present = tiling.present;
+    put_head(&mut *out, hdr.start, hdr.level, hdr.format);
+    put_picture(&mut *out, hdr.picture);
+    put_blocks(&mut *out, hdr.blocks);
+    put_motion(&mut *out, hdr.motion, hdr.refs);
+    put_inter(&mut *out, hdr.inter);
+    put_residual(&mut *out, hdr.residual);
+    put_filters(&mut *out, hdr.filters);
+    put_last(&mut *out, present, hdr.film_grain_present);
+}
+
+// The numbers of the zero record.
+pub fn put_zeros(out: &mut [i64])
+    ensures { λ _. ⌜ now (out .exit) ≡ overFront 146 (replicate 146 (pos 0)) (now (out .entry)) ⌝ }
+{
     if out.len() < 146 {
         return;
     }
-    put_header(&mut *out, 0, hdr);
+    let mut i: usize = 0;
+    while i < 146 {
+        out[i] = 0;
+        i += 1;
+    }
 }

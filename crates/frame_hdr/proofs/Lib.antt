@@ -1,3 +1,4 @@
 pub mod Usable
 pub mod Fresh
 pub mod Cleared
+pub mod Into

@@ -1,18 +1,17 @@
 // The domain: the frame's size, and a usable sequence record.
 ghost use mathlib.Core.Path.{_≡_};
-ghost use mathlib.Core.Bool.{_&&_};
+ghost use Prim.Native.Nat.{_≤_};
+ghost use lib.ListN.{length, take};
+ghost use Rattle.flat.specs.Layout.{buffers};
 ghost use Rattle.tile_layout.specs.Limits.{unsigned, isSize};
-ghost use Rattle.frame_hdr.specs.Frame.{startsLow, usableTiles, isOff, usable, inFrameDomain};
-use super::FrameHeader;
-use super::SeqLayout;
+ghost use Rattle.frame_hdr.specs.Frame.{startsLow, usableTiles, isOff, usable};
+ghost use Rattle.frame_hdr.specs.Into.{seqIn};
 use seq_fields::AdaptiveBoolean;
-use tile_layout::TileInfo;
 use tile_layout::is_size;
 use tile_layout::not_below_0;
-use tile_layout::start_at;
 
 // A width or height in the domain.
-fn is_extent(x: i32) -> bool
+pub fn is_extent(x: i32) -> bool
     ensures { λ r. ⌜ r ≡ isSize (unsigned x) ⌝ }
 {
     is_size(not_below_0(x))
@@ -20,31 +19,26 @@ fn is_extent(x: i32) -> bool
 
 // All starts up to and with entry n are at most 1,024.
 fn starts_low(starts: &[u16], n: u8) -> bool
-    ensures { λ r. ⌜ r ≡ startsLow (now (starts .entry)) n ⌝ }
+    requires { ⌜ (n ≤ 64) × (65 ≤ length (now starts)) ⌝ }
+    ensures { λ r. ⌜ r ≡ startsLow (take 65 (now (starts .entry))) n ⌝ }
 {
-    let mut low = start_at(starts, 0) <= 1024;
+    let mut low = starts[0] <= 1024;
     let mut i: u8 = 0;
     while i < n {
         i += 1;
-        low = low & (start_at(starts, i as usize) <= 1024);
+        low = low & (starts[i as usize] <= 1024);
     }
     low
 }
 
 fn usable_tiles(tiles: u8, log2: u8, starts: &[u16]) -> bool
-    ensures { λ r. ⌜ r ≡ usableTiles tiles log2 (now (starts .entry)) ⌝ }
+    requires { ⌜ 65 ≤ length (now starts) ⌝ }
+    ensures { λ r. ⌜ r ≡ usableTiles tiles log2 (take 65 (now (starts .entry))) ⌝ }
 {
-    (1 <= tiles) & (tiles <= 64) & (log2 <= 6) & starts_low(starts, tiles)
-}
-
-fn usable_info(t: TileInfo) -> bool
-    ensures { λ r. ⌜ r ≡ usableTiles (t .cols) (t .«log2_cols») (t .«col_start_sb») && usableTiles (t .rows) (t .«log2_rows») (t .«row_start_sb») ⌝ }
-{
-    let col_start_sb = t.col_start_sb;
-    let row_start_sb = t.row_start_sb;
-    let across = usable_tiles(t.cols, t.log2_cols, &col_start_sb);
-    let down = usable_tiles(t.rows, t.log2_rows, &row_start_sb);
-    across & down
+    if (1 <= tiles) & (tiles <= 64) & (log2 <= 6) {
+        return starts_low(starts, tiles);
+    }
+    false
 }
 
 pub fn is_off(present: AdaptiveBoolean) -> bool
@@ -57,20 +51,29 @@ pub fn is_off(present: AdaptiveBoolean) -> bool
     }
 }
 
-fn is_usable(seq: SeqLayout) -> bool
-    ensures { λ r. ⌜ r ≡ usable seq ⌝ }
+pub fn is_usable(
+    sb128: u8,
+    max_width: i32,
+    max_height: i32,
+    level: u8,
+    tier: u8,
+    present: AdaptiveBoolean,
+    info: &[u8],
+    cols: &[u16],
+    rows: &[u16],
+) -> bool
+    requires { ⌜ (9 ≤ length (now info)) × (65 ≤ length (now cols)) × (65 ≤ length (now rows)) ⌝ }
+    ensures { λ r. ⌜ r ≡ usable (seqIn sb128 «max_width» «max_height» level tier present (buffers (now (info .entry)) (now (cols .entry)) (now (rows .entry)))) ⌝ }
 {
-    let present = seq.present;
-    (seq.sb128 <= 2)
-        & is_extent(seq.max_width)
-        & is_extent(seq.max_height)
-        & (seq.level <= 31)
-        & (seq.tier <= 1)
-        & (is_off(present) | usable_info(seq.t))
-}
-
-pub fn in_frame_domain(hdr: FrameHeader, seq: SeqLayout) -> bool
-    ensures { λ r. ⌜ r ≡ inFrameDomain hdr seq ⌝ }
-{
-    is_extent(hdr.width) & is_extent(hdr.height) & is_usable(seq)
+    let known = (sb128 <= 2)
+        & is_extent(max_width)
+        & is_extent(max_height)
+        & (level <= 31)
+        & (tier <= 1);
+    if is_off(present) {
+        return known;
+    }
+    let across = usable_tiles(info[4], info[3], cols);
+    let down = usable_tiles(info[8], info[7], rows);
+    known & (across & down)
 }

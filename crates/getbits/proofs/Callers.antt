@@ -2,6 +2,7 @@
 use mathlib.Core.Path.{_≡_, refl, sym, ap, _∙_, subst}
 use mathlib.Core.List.{List}
 use mathlib.Core.Bool.{true, false}
+use mathlib.Core.Logic.{⊎-elim}
 use Prim.Native.Nat.{ℕ, zero, suc, _+_, _-_, _*_, _%_, _^_, _≤_, _<_, min}
 use native.Mathlib.Nat.{le-refl, add-zero}
 use native.Mathlib.Omega.{arith}
@@ -14,8 +15,8 @@ use Rattle.getbits.specs.Bits.{bitAt, bitsAt, bitCount, position, placeA
 use Rattle.getbits.specs.declared.Place.{Place}
 use Rattle.getbits.specs.declared.Number.{Number}
 use Rattle.getbits.proofs.Chain.{picked}
-use Rattle.getbits.proofs.Fields.{bits-lt, bits-add}
-use Rattle.getbits.proofs.Places.{pos-le, pos-at}
+use Rattle.getbits.proofs.Fields.{bits-lt, bits-add, bits-one, bit-past}
+use Rattle.getbits.proofs.Places.{lt-or-le, pos-le, pos-at, read-short}
 
 -- a width of at most 32 is read, and a larger one refused
 pub width-in : (s : List ℕ) (p : Place) (n : ℕ) → n ≤ 32 → readBits s p n ≡ getBits s p (pos n)
@@ -80,6 +81,36 @@ read-pos s p n =
     read-cases (λ (r : Number). position s (r .next) ≡ min (position s p + n) (bitCount s)) s p n
     (λ h. pos-at s (position s p + n) (p .error) h ∙ omega arith)
     (λ h. pos-at s (bitCount s) true (le-refl (bitCount s)) ∙ omega arith)
+
+-- bits that are not all there lead to the end
+ends : (s : List ℕ) (p : Place) (n : ℕ) → bitCount s < position s p + n → readBits s p n .next ≡ placeAt (bitCount s) true
+ends s p n h = ap (λ (r : Number). r .next) (sym (read-short s p n h))
+
+-- m bits and then n lead as far as both together
+pub read-join : (s : List ℕ) (p : Place) (m n : ℕ) → 1 ≤ n → readBits s (readBits s p m .next) n .next ≡ readBits s p (m + n) .next
+read-join s p m n l =
+    ⊎-elim (λ h. ends s (readBits s p m .next) n (omega (arith, read-pos s p m)) ∙ sym (ends s p (m + n) (omega arith)))
+    (λ h.
+    let at = pos-at s (position s p + m) (p .error) (omega arith) in
+    let sum : position s p + m + n ≡ position s p + (m + n) = omega arith in
+    rw (read-there s p m (omega arith), read-there s (placeAt (position s p + m) (p .error)) n (omega (arith, at)), read-there s p (m + n) h, at, sum))
+    (lt-or-le (bitCount s) (position s p + (m + n)))
+
+-- one bit is the bit that stands there, and 0 at the end
+pub bit-is : (s : List ℕ) (p : Place) → getBit s p .value ≡ bitAt s (position s p)
+unfolding getBit
+bit-is s p =
+    read-cases (λ (r : Number). r .value ≡ bitAt s (position s p)) s p 1
+    (λ _. bits-one s (position s p))
+    (λ h. sym (bit-past s (position s p) (omega arith)))
+
+-- the bits behind it
+pub bits-next : (s : List ℕ) (p : Place) (j : ℕ) → bitAt s (position s (getBit s p .next) + j) ≡ bitAt s (position s p + (1 + j))
+unfolding getBit
+bits-next s p j =
+    ⊎-elim (λ h. ap (bitAt s) (omega (arith, read-pos s p 1)))
+    (λ h. bit-past s _ (omega (arith, read-pos s p 1)) ∙ sym (bit-past s (position s p + (1 + j)) (omega arith)))
+    (lt-or-le (position s p) (bitCount s))
 
 -- the error never clears
 pub read-error : (s : List ℕ) (p : Place) (n : ℕ) → p .error ≡ true → readBits s p n .next .error ≡ true

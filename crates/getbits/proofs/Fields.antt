@@ -1,13 +1,13 @@
 -- Laws of the bits of a byte string and of the bytes that hold them. Assumes nothing.
-use mathlib.Core.Path.{_≡_, sym, ap, _∙_}
+use mathlib.Core.Path.{_≡_, refl, sym, ap, _∙_}
 use mathlib.Core.List.{List}
 use Prim.Native.Nat.{ℕ, zero, suc, _+_, _-_, _*_, _/_, _%_, _^_, _≤_, _<_}
-use native.Mathlib.Nat.{add-zero, add-suc, add-assoc, mul-assoc, pow-suc, div-one, one-mul, mod-lt, lt-of-lt-of-le}
+use native.Mathlib.Nat.{le-refl, add-zero, add-suc, add-assoc, mul-assoc, mul-right-comm, add-mul, pow-suc, zero-div, div-one, one-mul, mod-lt, mod-add-div', add-mul-mod-self-right, lt-of-lt-of-le}
 use native.Mathlib.Omega.{arith}
 use lib.Dec.{lit<, lit≤}
-use lib.ListN.{getD}
-use lib.Pow.{shr-shr, shl-exact, pow-pos, pow-mono, high, low}
-use Rattle.getbits.specs.Bits.{bitAt, bitsAt}
+use lib.ListN.{length, getD, List·getD-eq-default}
+use lib.Pow.{shr-shr, shl-shr, shl-lt, shl-exact, pow-add, pow-pos, pow-mono, high, low, field}
+use Rattle.getbits.specs.Bits.{bitAt, bitsAt, bitCount}
 use Rattle.getbits.specs.Words.{fourBytes, eightBytes}
 
 -- n bits write a number below 2 ^ n
@@ -63,15 +63,63 @@ eight-bytes s i h =
     let e : 8 * i + 32 ≡ 8 * (i + 4) = omega arith in
     bits-add s (8 * i) 32 32 ∙ rw (e, four-bytes s i h, four-bytes s (i + 4) h)
 
--- the n bits behind the first u of t bits, with r behind them
-pub window : (s : List ℕ) (i u n r t : ℕ) → u + n + r ≡ t → bitsAt s (8 * i) t / 2 ^ r % 2 ^ n ≡ bitsAt s (8 * i + u) n
-window s i u n r t e =
-    let a : bitsAt s (8 * i) t ≡ bitsAt s (8 * i) (u + n) * 2 ^ r + bitsAt s (8 * i + (u + n)) r = ap (bitsAt s (8 * i)) (sym e) ∙ bits-add s (8 * i) (u + n) r in
-    rw (a, high (bitsAt s (8 * i) (u + n)) r (bits-lt s (8 * i + (u + n)) r), bits-add s (8 * i) u n, low (bitsAt s (8 * i) u) n (bits-lt s (8 * i + u) n))
+-- the first n of n + r bits
+pub bits-top : (s : List ℕ) (i n r : ℕ) → bitsAt s i (n + r) / 2 ^ r ≡ bitsAt s i n
+bits-top s i n r = rw (bits-add s i n r, high (bitsAt s i n) r (bits-lt s (i + n) r))
 
--- a field of eight bytes is the bits that stand there
+-- the n bits behind the first u of t bits, with r behind them
+pub window : (s : List ℕ) (i u n r t : ℕ) → u + n + r ≡ t → bitsAt s i t / 2 ^ r % 2 ^ n ≡ bitsAt s (i + u) n
+window s i u n r t e = rw (sym e, bits-top s i (u + n) r, bits-add s i u n, low (bitsAt s i u) n (bits-lt s (i + u) n))
+
+-- past the end every bit is 0
+pub bit-past : (s : List ℕ) (i : ℕ) → bitCount s ≤ i → bitAt s i ≡ 0
+bit-past s i h =
+    let k : length s ≤ i / 8 = omega arith in
+    rw (List·getD-eq-default s 0 k, zero-div (2 ^ (7 - i % 8)))
+
+bits-past : (s : List ℕ) (i n : ℕ) → bitCount s ≤ i → bitsAt s i n ≡ 0
+unfolding bitsAt
+bits-past s i zero h = refl
+bits-past s i (suc n) h = rw (bits-past s i n h, bit-past s (i + n) (omega arith))
+
+-- what a shift drops may be dropped before it
+mod-mul : (x y m : ℕ) → x % m * y % m ≡ x * y % m
+mod-mul x y m =
+    sym (ap (λ (z : ℕ). z * y % m) (sym (mod-add-div' x m))
+    ∙ ap (λ (z : ℕ). z % m) (add-mul (x % m) (x / m * m) y ∙ ap (λ (z : ℕ). x % m * y + z) (mul-right-comm (x / m) m y))
+    ∙ add-mul-mod-self-right (x % m * y) (x / m * y) m)
+
+-- the last eight bytes, of which l stand from i on, moved to the front are the eight bytes from i on
+pub bytes-back : (s : List ℕ) (i l c : ℕ) → ((k : ℕ) → getD s k 0 < 256) → i + l ≡ length s → 8 ≤ length s → 8 * l + (8 + c) ≡ 64
+    → eightBytes s (length s - 8) * 2 ^ 8 % 2 ^ 64 * 2 ^ c % 2 ^ 64 ≡ eightBytes s i
+bytes-back s i l c b e h f =
+    let j = length s - 8 in
+    let up : ℕ = 2 ^ (8 + c) in
+    let front : ℕ = bitsAt s (8 * j) (8 + c) in
+    let back : ℕ = bitsAt s (8 * i) (8 * l) in
+    let at : 8 * j + (8 + c) ≡ 8 * i = omega arith in
+    let past : 8 * i + 8 * l ≡ bitCount s = omega arith in
+    let all : 8 + c + 8 * l ≡ 64 = omega arith in
+    let last : eightBytes s j ≡ front * 2 ^ (8 * l) + back =
+    sym (eight-bytes s j b) ∙ ap (bitsAt s (8 * j)) (sym all) ∙ bits-add s (8 * j) (8 + c) (8 * l) ∙ ap (λ (x : ℕ). front * 2 ^ (8 * l) + bitsAt s x (8 * l)) at in
+    let here : eightBytes s i ≡ back * up =
+    sym (eight-bytes s i b) ∙ ap (bitsAt s (8 * i)) (sym f) ∙ bits-add s (8 * i) (8 * l) (8 + c)
+    ∙ ap (λ (x : ℕ). back * up + x) (ap (λ (x : ℕ). bitsAt s x (8 + c)) past ∙ bits-past s (bitCount s) (8 + c) (le-refl (bitCount s))) ∙ add-zero (back * up) in
+    let whole : 2 ^ (8 * l) * up ≡ 2 ^ 64 = sym (pow-add 2 (8 * l) (8 + c)) ∙ ap (λ (x : ℕ). 2 ^ x) f in
+    let small : back * up < 2 ^ 64 = rw f at (shl-lt (8 * l) (8 + c) (bits-lt s (8 * i) (8 * l))) in
+    mod-mul (eightBytes s j * 2 ^ 8) (2 ^ c) (2 ^ 64)
+    ∙ ap (λ (x : ℕ). x % 2 ^ 64) (mul-assoc (eightBytes s j) (2 ^ 8) (2 ^ c) ∙ ap (λ (x : ℕ). eightBytes s j * x) (sym (pow-add 2 8 c)))
+    ∙ ap (λ (x : ℕ). x * up % 2 ^ 64) last
+    ∙ ap (λ (x : ℕ). x % 2 ^ 64) (add-mul (front * 2 ^ (8 * l)) back up ∙ ap (λ (x : ℕ). x + back * up) (mul-assoc front (2 ^ (8 * l)) up ∙ ap (λ (x : ℕ). front * x) whole))
+    ∙ low front 64 small
+    ∙ sym here
+
+-- a field of four bytes is the bits that stand there, and so is one of eight
+pub four-field : (s : List ℕ) (i u n : ℕ) → ((k : ℕ) → getD s k 0 < 256) → u < 8 → n ≤ 25 → fourBytes s i / 2 ^ (32 - (u + n)) % 2 ^ n ≡ bitsAt s (8 * i + u) n
+four-field s i u n b h k = ap (λ (x : ℕ). x / 2 ^ (32 - (u + n)) % 2 ^ n) (sym (four-bytes s i b)) ∙ window s (8 * i) u n (32 - (u + n)) 32 (omega arith)
+
 pub bytes-field : (s : List ℕ) (i u n : ℕ) → ((k : ℕ) → getD s k 0 < 256) → u < 8 → n ≤ 32 → eightBytes s i / 2 ^ (64 - (u + n)) % 2 ^ n ≡ bitsAt s (8 * i + u) n
-bytes-field s i u n b h k = ap (λ (x : ℕ). x / 2 ^ (64 - (u + n)) % 2 ^ n) (sym (eight-bytes s i b)) ∙ window s i u n (64 - (u + n)) 64 (omega arith)
+bytes-field s i u n b h k = ap (λ (x : ℕ). x / 2 ^ (64 - (u + n)) % 2 ^ n) (sym (eight-bytes s i b)) ∙ window s (8 * i) u n (64 - (u + n)) 64 (omega arith)
 
 -- 1 shifted by less than the width
 pub shl-one : (n w : ℕ) → n < w → 1 * 2 ^ n % 2 ^ w ≡ 2 ^ n
@@ -80,8 +128,20 @@ shl-one n w h = shl-exact {a = 1} 1 n w (lit< tt) (omega arith) ∙ one-mul (2 ^
 pub field-lt : (x n : ℕ) → n ≤ 32 → x % 2 ^ n < 2 ^ 32
 field-lt x n h = lt-of-lt-of-le (mod-lt x (pow-pos n)) (pow-mono h)
 
--- a shift by 64 - k, which may be the whole width, in two steps
-pub two-steps : (w k : ℕ) → k ≤ 63 → w / 2 / 2 ^ (63 - k) ≡ w / 2 ^ (64 - k)
-two-steps w k h =
-    let e : 1 + (63 - k) ≡ 64 - k = omega arith in
-    shr-shr w 1 (63 - k) ∙ ap (λ (x : ℕ). w / 2 ^ x) e
+-- a shift by w - k, which may be the whole width w, in two steps
+two-steps : (x k w : ℕ) → k < w → x / 2 / 2 ^ (w - 1 - k) ≡ x / 2 ^ (w - k)
+two-steps x k w h =
+    let e : 1 + (w - 1 - k) ≡ w - k = omega arith in
+    shr-shr x 1 (w - 1 - k) ∙ ap (λ (y : ℕ). x / 2 ^ y) e
+
+-- of w bits the first shift drops the u before a field of n, the others what stands behind it
+pub shifts : (x u n w : ℕ) → u + n ≤ w → n < w → x * 2 ^ u % 2 ^ w / 2 / 2 ^ (w - 1 - n) ≡ x / 2 ^ (w - (u + n)) % 2 ^ n
+shifts x u n w h k =
+    let y = x * 2 ^ u in
+    let whole : w ≡ n + (w - n) = omega arith in
+    let rest : w - n ≡ u + (w - (u + n)) = omega arith in
+    two-steps (y % 2 ^ w) n w k
+    ∙ ap (λ (z : ℕ). y % 2 ^ z / 2 ^ (w - n)) whole
+    ∙ field y n (w - n)
+    ∙ ap (λ (z : ℕ). y / 2 ^ z % 2 ^ n) rest
+    ∙ ap (λ (z : ℕ). z % 2 ^ n) (sym (shr-shr y u (w - (u + n))) ∙ ap (λ (z : ℕ). z / 2 ^ (w - (u + n))) (shl-shr x u))

@@ -9,9 +9,9 @@ use native.Mathlib.Omega.{arith}
 use borrow.Author.Tests.{lt-ltb, le-ltb, le-leb, lt-leb}
 use lib.Dec.{ltb}
 use lib.ListN.{length, getD}
-use Rattle.getbits.specs.Bits.{bitAt, bitsAt, bitCount, position, placeAt, settled, runOut, readBits}
+use Rattle.getbits.specs.Bits.{bitAt, bitsAt, bitCount, position, placeAt, settled, runOut, readBits, lookAt}
 use Rattle.getbits.specs.declared.Place.{Place}
-use Rattle.getbits.proofs.Chain.{picked}
+use Rattle.getbits.proofs.Chain.{picked, taken}
 use Rattle.getbits.proofs.Fields.{bits-one, bit-of}
 
 pub lt-or-le : (a b : ℕ) → (a < b) ⊎ (b ≤ a)
@@ -86,9 +86,18 @@ read-one s p h k e f g =
 
 -- the bits behind a settled place are the reading
 pub read-at : (s : List ℕ) (p q : Place) (n : ℕ) {v : ℕ} → q ≡ settled s p → 8 * q .byte + q .used + n ≤ bitCount s → v ≡ bitsAt s (8 * q .byte + q .used) n
-    → record { value = v; next = record { byte = q .byte + (q .used + n) / 8; used = (q .used + n) % 8; error = q .error } } ≡ readBits s p n
+    → record { value = v; next = record { byte = q .byte + (q .used + n) / 8; used = (q .used + n) % 8; error = p .error } } ≡ readBits s p n
 read-at s p q n e h g =
     let b = ap (λ (x : Place). x .byte) e in
     let u = ap (λ (x : Place). x .used) e in
     let at : 8 * q .byte + q .used ≡ position s p = omega (arith, b, u) in
-    read-in s p n (omega arith) (g ∙ ap (λ (i : ℕ). bitsAt s i n) at) (omega arith) (omega arith) (ap (λ (x : Place). x .error) e)
+    read-in s p n (omega arith) (g ∙ ap (λ (i : ℕ). bitsAt s i n) at) (omega arith) (omega arith) refl
+
+-- the bits behind the settled place are what is looked at
+pub looked : (s : List ℕ) (p q : Place) (n : ℕ) {r : ℕ} → q ≡ settled s p → n ≤ 32 → r ≡ bitsAt s (8 * q .byte + q .used) n → r ≡ lookAt s p n
+unfolding lookAt
+looked s p q n e h f =
+    let b = ap (λ (x : Place). x .byte) e in
+    let u = ap (λ (x : Place). x .used) e in
+    let at : 8 * q .byte + q .used ≡ position s p = omega (arith, b, u) in
+    f ∙ ap (λ (i : ℕ). bitsAt s i n) at ∙ sym (taken _ _ _ (le-leb n 32 h))

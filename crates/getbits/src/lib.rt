@@ -7,6 +7,7 @@ ghost use Rattle.getbits.specs.Bits.{settled, runOut, refused, lookAt, g
 
 mod words;
 
+use words::narrow;
 use words::peek;
 use words::within;
 
@@ -107,9 +108,8 @@ pub fn refuse(s: &[u8], p: Place) -> Number
     }
 }
 
-// get_bits for a width that has no sign. It is inlined in its callers, and so keeps a place out of memory; the bits come from `peek`, which is
-// not inlined while it has two callers.
-pub fn read_bits(s: &[u8], p: Place, n: u32) -> Number
+// get_bits for a width that has no sign. Its bits come from `peek`, so that it stays small.
+pub fn read_wide(s: &[u8], p: Place, n: u32) -> Number
     ensures { λ r. ⌜ r ≡ getBits (now (s .entry)) p (pos n) ⌝ }
 {
     if 32 < n {
@@ -127,9 +127,30 @@ pub fn read_bits(s: &[u8], p: Place, n: u32) -> Number
         next: Place {
             byte: byte + (stop / 8) as usize,
             used: stop % 8,
-            error: q.error,
+            error: p.error,
         },
     }
+}
+
+// The same. Where four bytes are left, they hold up to 25 bits, and nothing else is asked: it is inlined in its callers, and so keeps a place out
+// of memory.
+pub fn read_bits(s: &[u8], p: Place, n: u32) -> Number
+    ensures { λ r. ⌜ r ≡ getBits (now (s .entry)) p (pos n) ⌝ }
+{
+    let byte = p.byte;
+    let used = p.used;
+    if n <= 25 && used < 8 && 4 <= s.len() && byte <= s.len() - 4 {
+        let stop = used + n;
+        return Number {
+            value: narrow(s, byte, used, n),
+            next: Place {
+                byte: byte + (stop / 8) as usize,
+                used: stop % 8,
+                error: p.error,
+            },
+        };
+    }
+    read_wide(s, p, n)
 }
 
 // The n bits behind a place, at most 32, with 0 for each past the end. None is used.
@@ -138,12 +159,22 @@ pub fn look(s: &[u8], p: Place, n: u32) -> u32
 {
     if n <= 32 {
         let q = settle(s, p);
-        if 8 <= s.len() - q.byte {
-            return within(s, q.byte, q.used, n);
-        }
         return peek(s, q.byte, q.used, n);
     }
     0
+}
+
+// The same, without a call where eight bytes are left.
+pub fn look_ahead(s: &[u8], p: Place, n: u32) -> u32
+    ensures { λ r. ⌜ r ≡ lookAt (now (s .entry)) p n ⌝ }
+{
+    if n <= 32 {
+        let q = settle(s, p);
+        if 8 <= s.len() - q.byte {
+            return within(s, q.byte, q.used, n);
+        }
+    }
+    look(s, p, n)
 }
 
 pub fn get_bits(s: &[u8], p: Place, n: i32) -> Number

@@ -15,6 +15,7 @@ use Rattle.tile_layout.specs.declared.TileArgs.{TileArgs}
 use Rattle.tile_layout.specs.declared.TileInfo.{TileInfo}
 use Rattle.tile_layout.specs.declared.TileRead.{TileRead}
 use Rattle.frame_hdr.specs.Frame.{isFrameType, frameTypeOf, isPresence, presentOf, parseTileInfoFrmhdr}
+use Rattle.frame_hdr.specs.Into.{frameIn, seqIn}
 use Rattle.frame_hdr.specs.declared.FrameHeader.{FrameHeader}
 use Rattle.frame_hdr.specs.declared.FrameRead.{FrameRead}
 use Rattle.frame_hdr.specs.declared.SeqLayout.{SeqLayout}
@@ -45,13 +46,11 @@ isKnown type present = isFrameType type && isPresence present
 
 -- the frame that a call is given: its type's number, its size, its code and its layout
 abbrev pub frameGiven : ℕ → ℤ → ℤ → ℕ → Buffers → FrameHeader
-frameGiven type width height code b =
-    record { «frame_type» = frameTypeOf type; width = width; height = height; sb128 = code; tiling = layoutIn b }
+frameGiven type width height code b = frameIn (frameTypeOf type) width height code b
 
 -- what it is given of the sequence: its code, its greatest size, its level and tier, the number of the layout's presence, and the layout
 abbrev pub seqGiven : ℕ → ℤ → ℤ → ℕ → ℕ → ℕ → Buffers → SeqLayout
-seqGiven code width height level tier present b =
-    record { sb128 = code; «max_width» = width; «max_height» = height; level = level; tier = tier; present = presentOf present; t = layoutIn b }
+seqGiven code width height level tier present b = seqIn code width height level tier (presentOf present) b
 
 -- a reading of a frame's layout from a place of the bytes s, called over the buffers of the frame's layout and of the sequence's; `known` says
 -- whether the frame's type and the presence are numbers of one

@@ -1,3 +1,4 @@
+pub mod Numbers
 pub mod Bounds
 pub mod HeaderLayout
 pub mod Refused

@@ -3,14 +3,17 @@
 // answer for every argument.
 ghost use mathlib.Core.Path.{_≡_};
 ghost use Prim.Native.Nat.{_+_, _-_, _*_, _/_, _%_, _^_, _<_, _≤_, min, max};
-ghost use lib.Dec.{ltb, eqb};
-ghost use lib.ListN.{getD, set};
+ghost use lib.Dec.{ltb, leb, eqb};
+ghost use lib.ListN.{getD};
 ghost use Rattle.codes.specs.Codes.{getUniform};
 ghost use Rattle.tile_layout.specs.Limits.{superblocks, tileLog2};
 ghost use Rattle.tile_layout.specs.Layout.{base, count, larger};
 ghost use Rattle.superblocks.specs.Counts.{multiplierOf, sizeOf, fitsUniform};
+use codes::eight_left;
 use codes::get_uniform;
+use codes::uniform_of;
 use getbits::Place;
+use getbits::look_ahead;
 use getbits::power;
 use tile_layout::start_at;
 
@@ -42,9 +45,6 @@ pub struct Split {
     pub extra: TileCount,
     pub tiles: TileCount,
 }
-
-// The starts of a sequence's layout.
-pub struct SeqStarts([u16; 65]);
 
 // A size as get_uniform has it: a number below max.
 pub struct SizeNumber {
@@ -131,25 +131,23 @@ fn sb_count(n: u32, code: u8) -> u32
     whole_sbs(u32_to_u64(n) + u32_to_u64(sbsz_min1), code)
 }
 
-// The place of an entry of a layout: one above 64 counts as 64.
-fn entry(i: u8) -> usize
-    ensures { λ r. ⌜ (r ≡ min i 64) × (r ≤ 64) ⌝ }
+// a - b, or 0 where b is larger.
+fn usub(a: u32, b: u32) -> u32
+    ensures { λ r. ⌜ r ≡ a - b ⌝ }
 {
-    if i < 64 { i as usize } else { 64 }
+    if a < b { 0 } else { a - b }
 }
 
-// The least k with sz * 2 ^ k at least tgt.
+// The least k with sz * 2 ^ k at least tgt: as many bits as tgt is longer, or one more.
 fn tile_log2(sz: u32, tgt: u32) -> u8
-    requires { ⌜ (tgt ≤ sz * 1048576) × (tgt ≤ 1048576) ⌝ }
+    requires { ⌜ (1 ≤ sz) × (tgt ≤ 1048576) ⌝ }
     ensures { λ r. ⌜ r ≡ tileLog2 sz tgt ⌝ }
 {
-    let mut reach = sz;
-    let mut k: u8 = 0;
-    while reach < tgt {
-        reach *= 2;
-        k += 1;
+    let k = usub(u32::leading_zeros(sz), u32::leading_zeros(tgt));
+    if sz << k < tgt {
+        return (k + 1) as u8;
     }
-    k
+    k as u8
 }
 
 // A size counts as 1 at least, and a target as 2 ^ 20 at most.
@@ -306,6 +304,20 @@ impl FrameSb {
         held_log2(self.0, all.0)
     }
 
+    // Then 64 tiles always suffice.
+    pub fn at_most_64(self) -> bool
+        ensures { λ r. ⌜ r ≡ leb (self .0) 64 ⌝ }
+    {
+        self.0 <= 64
+    }
+
+    // As a record has it.
+    pub fn number(self) -> u16
+        ensures { λ r. ⌜ r ≡ self .0 % 65536 ⌝ }
+    {
+        (self.0 % 65536) as u16
+    }
+
     // The largest logarithm, for at most 64 tiles.
     pub fn max_log2(self) -> u8
         ensures { λ r. ⌜ r ≡ tileLog2 1 (min (self .0) 64) ⌝ }
@@ -359,28 +371,11 @@ impl TileCount {
     }
 }
 
-impl SeqStarts {
-    pub fn of(starts: [u16; 65]) -> SeqStarts
-        ensures { λ r. ⌜ r .0 ≡ starts ⌝ }
-    {
-        SeqStarts(starts)
-    }
-
-    // The start of tile i.
-    pub fn start(self, i: u8) -> SeqSb
-        ensures { λ r. ⌜ r .0 ≡ getD (self .0) (min i 64) 0 ⌝ }
-    {
-        let at = entry(i);
-        SeqSb(self.0[at] as u32)
-    }
-}
-
-// The start of tile i is stored, or the closing one.
-pub fn put_start(starts: &mut [u16; 65], i: u8, start: FrameSb)
-    ensures { λ r. ⌜ now (starts .exit) ≡ set (now (starts .entry)) (min i 64) (start .0 % 65536) ⌝ }
+// The start of tile i of a sequence's layout, or its closing entry.
+pub fn seq_start(starts: &[u16], i: u8) -> SeqSb
+    ensures { λ r. ⌜ r .0 ≡ getD (now (starts .entry)) i 0 ⌝ }
 {
-    let at = entry(i);
-    starts[at] = (start.0 % 65536) as u16;
+    SeqSb(start_at(starts, i as usize) as u32)
 }
 
 // One size, where `rest` superblocks remain.
@@ -388,7 +383,23 @@ pub fn read_size(s: &[u8], p: Place, rest: FrameSb, limit: FrameSb) -> TileSize
     ensures { λ r. ⌜ (r .size .0 ≡ getUniform (now (s .entry)) p (min (rest .0) (limit .0)) .value + 1)
         × (r .next ≡ getUniform (now (s .entry)) p (min (rest .0) (limit .0)) .next) ⌝ }
 {
-    let g = get_uniform(s, p, umin(rest.0, limit.0));
+    let max = umin(rest.0, limit.0);
+    // Where eight bytes are left, the size comes out of one word, and the place stays out of memory.
+    if (1 <= max) & (max < 0x8000_0000) {
+        if eight_left(s, p) {
+            let u = uniform_of(look_ahead(s, p, 32), max);
+            let stop = p.used + u.bits;
+            return TileSize {
+                size: FrameSb(u.value + 1),
+                next: Place {
+                    byte: p.byte + (stop / 8) as usize,
+                    used: stop % 8,
+                    error: p.error,
+                },
+            };
+        }
+    }
+    let g = get_uniform(s, p, max);
     let next = g.next;
     TileSize {
         size: FrameSb(g.value + 1),

@@ -1,3 +1,5 @@
 pub mod Coded
 pub mod Walk
+pub mod Word
 pub mod Rules
+pub mod Into

@@ -49,7 +49,7 @@ no-more : (s : List ℕ) (p : Place) (remains limit : ℕ) → readSizes 0 s p r
 unfolding readSizes
 no-more s p remains limit = refl
 
-module _ (s : List ℕ) (total limit : ℕ) (start : Place) where
+module _ (s : List ℕ) (total limit : ℕ) (start : Place) (rest : List ℕ) where
   -- n tiles are done, with x superblocks, and the array holds their starts
   pub record Walked (at : List ℕ) (p : Place) (x n wide : ℕ) : Type 0 where
     pub done : List ℕ
@@ -57,11 +57,11 @@ module _ (s : List ℕ) (total limit : ℕ) (start : Place) where
     pub tiles : n ≡ length done
     pub summed : x ≡ sum done
     pub wides : wide ≡ widest done
-    pub stored : at ≡ padded (startsFrom 0 done)
+    pub stored : at ≡ padded (startsFrom 0 done) ++ rest
     pub inside : x ≤ total
     pub few : n ≤ 64
 
-  pub walk-start : {at : List ℕ} (x wide : ℕ) → at ≡ replicate 65 0 → x ≡ 0 → wide ≡ 0 → Walked at start x 0 wide
+  pub walk-start : {at : List ℕ} (x wide : ℕ) → at ≡ replicate 65 0 ++ rest → x ≡ 0 → wide ≡ 0 → Walked at start x 0 wide
   unfolding sum widest startsFrom
   walk-start x wide d e f =
       rw (d, e, f)
@@ -79,14 +79,13 @@ module _ (s : List ℕ) (total limit : ℕ) (start : Place) where
   -- one size more, z, as the program has it
   pub walk-next : {at then-at : List ℕ} {p q : Place} {x n wide z y v r : ℕ} → Walked at p x n wide → x < total → n < 64 → total ≤ 1024 → 1 ≤ limit
       → r ≡ total - x → z ≡ getUniform s p (min r limit) .value + 1 → q ≡ getUniform s p (min r limit) .next
-      → then-at ≡ set at (min n 64) (x % 65536) → y ≡ max wide z → v ≡ (x + z) % 4294967296
+      → then-at ≡ set at n (x % 65536) → y ≡ max wide z → v ≡ (x + z) % 4294967296
       → Walked then-at q v (n + 1) y
   unfolding sum
   walk-next {at} {then-at} {p} {q} {x} {n} {wide} {z} {y} {v} {r} w h k low some er ez eq ea ey ev =
       let f : 64 - n ≡ suc (64 - (n + 1)) = omega arith in
       let zr : z ≤ r = omega (arith, uniform-lt s p (min r limit) (omega arith)) in
       let j : r - z ≡ total - (x + z) = omega arith in
-      let i : min n 64 ≡ n = omega arith in
       let g : x % 65536 ≡ 0 + sum (w .done) = omega (arith, w .summed, w .inside) in
       let e : v ≡ x + z = omega (arith, w .inside) in
       rw e
@@ -103,8 +102,8 @@ module _ (s : List ℕ) (total limit : ℕ) (start : Place) where
         wides = omega (arith, w .wides, widest-more (w .done) z);
         stored =
             ea
-            ∙ rw (i, w .stored) (grow (startsFrom 0 (w .done)) n (x % 65536) (length-starts (w .done) 0 ∙ sym (w .tiles)) (omega arith))
-            ∙ ap padded (ap (λ (m : ℕ). startsFrom 0 (w .done) ++ (m ∷ [])) g ∙ sym (starts-more (w .done) 0 z));
+            ∙ rw (w .stored) (grow (startsFrom 0 (w .done)) rest n (x % 65536) (length-starts (w .done) 0 ∙ sym (w .tiles)) (omega arith))
+            ∙ ap (λ (l : List ℕ). padded l ++ rest) (ap (λ (m : ℕ). startsFrom 0 (w .done) ++ (m ∷ [])) g ∙ sym (starts-more (w .done) 0 z));
         inside = omega arith;
         few = omega arith;
       })
@@ -112,17 +111,17 @@ module _ (s : List ℕ) (total limit : ℕ) (start : Place) where
   -- the loop is left: what was done is what is read
   ended : {at : List ℕ} (r : Sizes) (w : Walked at (r .next) (r .sum .0) (r .tiles) (r .widest .0))
       → readSizes (64 - r .tiles) s (r .next) (total - r .sum .0) limit ≡ record { sizes = []; next = r .next }
-      → SizesOf (readSizes 64 s start total limit) r at
+      → SizesOf (readSizes 64 s start total limit) r rest at
   ended r w e =
       rw (w .all ∙ ap (behind (w .done)) e ∙ ap (λ (t : List ℕ). record { sizes = t; next = r .next }) (append-nil (w .done)))
       (record { counted = w .tiles; summed = w .summed; wides = w .wides; stands = refl; stored = w .stored; few = w .few })
 
-  pub all-done : {at : List ℕ} (r : Sizes) → Walked at (r .next) (r .sum .0) (r .tiles) (r .widest .0) → total ≤ r .sum .0 → SizesOf (readSizes 64 s start total limit) r at
+  pub all-done : {at : List ℕ} (r : Sizes) → Walked at (r .next) (r .sum .0) (r .tiles) (r .widest .0) → total ≤ r .sum .0 → SizesOf (readSizes 64 s start total limit) r rest at
   all-done r w h =
       let q : total - r .sum .0 ≡ 0 = omega arith in
       ended r w (rw q (nothing-left (64 - r .tiles) s (r .next) limit))
 
-  pub all-used : {at : List ℕ} (r : Sizes) → Walked at (r .next) (r .sum .0) (r .tiles) (r .widest .0) → 64 ≤ r .tiles → SizesOf (readSizes 64 s start total limit) r at
+  pub all-used : {at : List ℕ} (r : Sizes) → Walked at (r .next) (r .sum .0) (r .tiles) (r .widest .0) → 64 ≤ r .tiles → SizesOf (readSizes 64 s start total limit) r rest at
   all-used r w h =
       let q : 64 - r .tiles ≡ 0 = omega arith in
       ended r w (rw q (no-more s (r .next) (total - r .sum .0) limit))

@@ -1,15 +1,28 @@
 // The tile layout of a frame.
 ghost use mathlib.Core.Path.{_≡_};
-ghost use mathlib.Core.Bool.{true};
+ghost use mathlib.Core.Bool.{true, false};
+ghost use Rattle.answers.specs.Numbers.{isRefusal};
+ghost use Rattle.answers.specs.declared.Answer.the-variants.{InvalidTileInfo};
+ghost use Rattle.getbits.specs.Bits.{lookAt, getFlag};
 ghost use Rattle.getbits.specs.Chain.{pick};
 ghost use Rattle.tile_layout.specs.Limits.{argsOf, inDomain, sbw, sbh, widthLimit};
-ghost use Rattle.tile_layout.specs.Layout.{rowLimit, uniformLayout, invalidTileInfo, nonUniformLayout, parseTileInfo};
+ghost use Rattle.tile_layout.specs.Layout.{rowLimit, uniformLayout, nonUniformLayout, parseTileInfo};
 ghost use Rattle.tile_layout.specs.Demand3.{Demand3};
 ghost use Rattle.tile_layout.specs.Cleared.{ReadOver};
-ghost use Rattle.tile_info.specs.Inner.{Known};
+ghost use Rattle.flat.specs.Layout.{buffers, hasRoom, putLayout, layoutIn};
+ghost use Rattle.tile_info.specs.Inner.{Known, SizedInto};
+ghost use Rattle.tile_info.specs.Into.{readInto, parseTileInfoInto};
 use answers::Answer;
+use answers::is_refusal;
+use flat::has_room;
+use flat::put_layout_bytes;
+use flat::put_starts;
+use flat::put_tile_info;
+use flat::starts_in;
+use flat::tile_info_of;
 use getbits::Place;
 use getbits::get_bit;
+use getbits::look;
 use getbits::read_bits;
 use superblocks::FrameSb;
 use tile_layout::TileArgs;
@@ -72,100 +85,213 @@ pub fn row_bounds(a: TileArgs, widest_tile: FrameSb) -> SizeBounds
     no_bounds()
 }
 
-// The uniform rule, from behind the flag.
-fn uniform_layout(s: &[u8], p: Place, a: TileArgs, k: FrameLimits) -> TileRead
+// The answer of a reading into lent buffers, and the place after it.
+pub struct TileOutcome {
+    pub answer: Answer,
+    pub next: Place,
+}
+
+// The uniform rule. `word` has the bits from the flag on, which are 13 at most.
+fn uniform_layout(
+    s: &[u8],
+    p: Place,
+    word: u32,
+    a: TileArgs,
+    k: FrameLimits,
+    info: &mut [u8],
+    cols: &mut [u16],
+    rows: &mut [u16],
+) -> Place
     requires { ⌜ inDomain a ≡ true ⌝ }
     requires { ⌜ Known a k ⌝ }
-    ensures { λ r. ⌜ r ≡ uniformLayout (now (s .entry)) p a ⌝ }
+    requires { ⌜ word ≡ lookAt (now s) p 32 ⌝ }
+    requires { ⌜ hasRoom (buffers (now info) (now cols) (now rows)) ≡ true ⌝ }
+    ensures { λ r.
+        let before = buffers (now (info .entry)) (now (cols .entry)) (now (rows .entry)) in
+        let after = buffers (now (info .exit)) (now (cols .exit)) (now (rows .exit)) in
+        let z = uniformLayout (now (s .entry)) (getFlag (now (s .entry)) p .next) a in
+        ⌜ (r ≡ z .next) × (after ≡ putLayout (z .info) before) ⌝ }
 {
-    let c = read_log2(s, p, k.min_log2_cols, k.max_log2_cols);
+    let c = read_log2(word, 1, k.min_log2_cols, k.max_log2_cols);
     let min_log2_rows = usub(k.min_log2_tiles, c.log2);
-    let r = read_log2(s, c.next, min_log2_rows, k.max_log2_rows);
-    let mut col_starts = [0u16; 65];
-    let mut row_starts = [0u16; 65];
-    let cols = uniform_starts(&mut col_starts, a, k.pair, a.width, k.sbw, c.log2);
-    let rows = uniform_starts(&mut row_starts, a, k.pair, a.height, k.sbh, r.log2);
-    let info = TileInfo {
-        uniform: true,
-        min_log2_cols: k.min_log2_cols,
-        max_log2_cols: k.max_log2_cols,
-        log2_cols: c.log2,
-        cols,
+    let r = read_log2(word, c.used, min_log2_rows, k.max_log2_rows);
+    let n_cols = uniform_starts(&mut *cols, a, k.pair, a.width, k.sbw, c.log2);
+    let n_rows = uniform_starts(&mut *rows, a, k.pair, a.height, k.sbh, r.log2);
+    put_layout_bytes(
+        &mut *info,
+        true,
+        k.min_log2_cols,
+        k.max_log2_cols,
+        c.log2,
+        n_cols,
         min_log2_rows,
-        max_log2_rows: k.max_log2_rows,
-        log2_rows: r.log2,
-        rows,
-        col_start_sb: col_starts,
-        row_start_sb: row_starts,
-    };
-    let next = r.next;
-    TileRead {
-        answer: Answer::Accepted,
-        info,
-        next,
-    }
+        k.max_log2_rows,
+        r.log2,
+        n_rows,
+    );
+    let behind = read_bits(s, p, r.used);
+    behind.next
 }
 
-// A refusal hands back the record given.
-fn invalid_tile_info(thdr: TileInfo, next: Place) -> TileRead
-    ensures { λ r. ⌜ r ≡ invalidTileInfo thdr next ⌝ }
+fn invalid_tile_info(next: Place) -> TileOutcome
+    ensures { λ r. ⌜ r ≡ record { answer = InvalidTileInfo; next = next } ⌝ }
 {
-    TileRead {
+    TileOutcome {
         answer: Answer::InvalidTileInfo,
-        info: thdr,
         next,
     }
 }
 
-// The non-uniform rule, from behind the flag.
-fn nonuniform_layout(s: &[u8], p: Place, thdr: TileInfo, a: TileArgs, k: FrameLimits) -> TileRead
+// The non-uniform rule, from behind the flag. After a refusal the starts are of no use.
+fn read_nonuniform(
+    s: &[u8],
+    p: Place,
+    a: TileArgs,
+    k: FrameLimits,
+    info: &mut [u8],
+    cols: &mut [u16],
+    rows: &mut [u16],
+) -> TileOutcome
     requires { ⌜ inDomain a ≡ true ⌝ }
     requires { ⌜ Known a k ⌝ }
-    ensures { λ r. ⌜ r ≡ nonUniformLayout (now (s .entry)) p thdr a ⌝ }
+    requires { ⌜ hasRoom (buffers (now info) (now cols) (now rows)) ≡ true ⌝ }
+    ensures { λ r.
+        let before = buffers (now (info .entry)) (now (cols .entry)) (now (rows .entry)) in
+        let after = buffers (now (info .exit)) (now (cols .exit)) (now (rows .exit)) in
+        ⌜ SizedInto (nonUniformLayout (now (s .entry)) p (layoutIn before) a) before r after ⌝ }
 {
-    let mut col_start_sb = [0u16; 65];
-    let cols = read_tiles(s, p, &mut col_start_sb, k.sbw, k.max_tile_width_sb);
-    if cols.short {
-        return invalid_tile_info(thdr, cols.next);
+    let c = read_tiles(s, p, &mut *cols, k.sbw, k.max_tile_width_sb);
+    if c.short {
+        return invalid_tile_info(c.next);
     }
-    let mut row_start_sb = [0u16; 65];
-    let max_height = max_tile_height_sb(a, k, cols.widest);
-    let rows = read_tiles(s, cols.next, &mut row_start_sb, k.sbh, max_height);
-    if rows.short {
-        return invalid_tile_info(thdr, rows.next);
+    let max_height = max_tile_height_sb(a, k, c.widest);
+    let r = read_tiles(s, c.next, &mut *rows, k.sbh, max_height);
+    let next = r.next;
+    if r.short {
+        return invalid_tile_info(next);
     }
-    let info = TileInfo {
-        uniform: false,
-        min_log2_cols: k.min_log2_cols,
-        max_log2_cols: k.max_log2_cols,
-        log2_cols: cols.log2,
-        cols: cols.tiles,
-        min_log2_rows: thdr.min_log2_rows,
-        max_log2_rows: k.max_log2_rows,
-        log2_rows: rows.log2,
-        rows: rows.tiles,
-        col_start_sb,
-        row_start_sb,
-    };
-    let next = rows.next;
-    TileRead {
+    let min_log2_rows = info[5];
+    put_layout_bytes(
+        &mut *info,
+        false,
+        k.min_log2_cols,
+        k.max_log2_cols,
+        c.log2,
+        c.tiles,
+        min_log2_rows,
+        k.max_log2_rows,
+        r.log2,
+        r.tiles,
+    );
+    TileOutcome {
         answer: Answer::Accepted,
-        info,
         next,
     }
+}
+
+// The same, and a refusal keeps the buffers. With at most 64 superblocks across and down none is refused, and there is nothing to keep.
+fn nonuniform_layout(
+    s: &[u8],
+    p: Place,
+    a: TileArgs,
+    k: FrameLimits,
+    info: &mut [u8],
+    cols: &mut [u16],
+    rows: &mut [u16],
+) -> TileOutcome
+    requires { ⌜ inDomain a ≡ true ⌝ }
+    requires { ⌜ Known a k ⌝ }
+    requires { ⌜ hasRoom (buffers (now info) (now cols) (now rows)) ≡ true ⌝ }
+    ensures { λ r.
+        let before = buffers (now (info .entry)) (now (cols .entry)) (now (rows .entry)) in
+        let after = buffers (now (info .exit)) (now (cols .exit)) (now (rows .exit)) in
+        ⌜ (r, after) ≡ readInto (nonUniformLayout (now (s .entry)) p (layoutIn before) a) before ⌝ }
+{
+    if k.sbw.at_most_64() & k.sbh.at_most_64() {
+        return read_nonuniform(s, p, a, k, &mut *info, &mut *cols, &mut *rows);
+    }
+    let old_cols = starts_in(&*cols);
+    let old_rows = starts_in(&*rows);
+    let r = read_nonuniform(s, p, a, k, &mut *info, &mut *cols, &mut *rows);
+    let answer = r.answer;
+    if is_refusal(answer) {
+        put_starts(&mut *cols, &old_cols);
+        put_starts(&mut *rows, &old_rows);
+    }
+    r
 }
 
 // The flag, and the layout by its rule.
-fn read_layout(s: &[u8], p: Place, thdr: TileInfo, a: TileArgs) -> TileRead
+fn read_layout(
+    s: &[u8],
+    p: Place,
+    a: TileArgs,
+    info: &mut [u8],
+    cols: &mut [u16],
+    rows: &mut [u16],
+) -> TileOutcome
     requires { ⌜ inDomain a ≡ true ⌝ }
-    ensures { λ r. ⌜ r ≡ parseTileInfo (now (s .entry)) p thdr a ⌝ }
+    requires { ⌜ hasRoom (buffers (now info) (now cols) (now rows)) ≡ true ⌝ }
+    ensures { λ r.
+        let before = buffers (now (info .entry)) (now (cols .entry)) (now (rows .entry)) in
+        let after = buffers (now (info .exit)) (now (cols .exit)) (now (rows .exit)) in
+        ⌜ (r, after) ≡ readInto (parseTileInfo (now (s .entry)) p (layoutIn before) a) before ⌝ }
 {
     let k = frame_limits(a);
-    let uniform = get_bit(s, p);
-    if uniform.value == 1 {
-        return uniform_layout(s, uniform.next, a, k);
+    let word = look(s, p, 32);
+    if 0x8000_0000 <= word {
+        let next = uniform_layout(s, p, word, a, k, &mut *info, &mut *cols, &mut *rows);
+        return TileOutcome {
+            answer: Answer::Accepted,
+            next,
+        };
     }
-    nonuniform_layout(s, uniform.next, thdr, a, k)
+    let uniform = get_bit(s, p);
+    nonuniform_layout(s, uniform.next, a, k, &mut *info, &mut *cols, &mut *rows)
+}
+
+// parse_tile_info into lent buffers: nine bytes, and the starts of the columns and of the rows.
+pub fn parse_tile_info_into(
+    s: &[u8],
+    p: Place,
+    info: &mut [u8],
+    cols: &mut [u16],
+    rows: &mut [u16],
+    sbmul: i32,
+    sb128: u8,
+    seq_sb128: u8,
+    w: i32,
+    h: i32,
+    level: u8,
+    tier: u8,
+) -> TileOutcome
+    ensures { λ r.
+        let before = buffers (now (info .entry)) (now (cols .entry)) (now (rows .entry)) in
+        let after = buffers (now (info .exit)) (now (cols .exit)) (now (rows .exit)) in
+        ⌜ (r, after) ≡ parseTileInfoInto (now (s .entry)) p before (argsOf sbmul sb128 «seq_sb128» w h level tier) ⌝ }
+    ensures { λ r.
+        let before = buffers (now (info .entry)) (now (cols .entry)) (now (rows .entry)) in
+        let after = buffers (now (info .exit)) (now (cols .exit)) (now (rows .exit)) in
+        ⌜ (hasRoom before ≡ true → isRefusal (r .answer) ≡ false
+        → layoutIn after ≡ parseTileInfo (now (s .entry)) p (layoutIn before) (argsOf sbmul sb128 «seq_sb128» w h level tier) .info) ⌝ }
+{
+    if !has_room(&*info, &*cols, &*rows) {
+        return TileOutcome {
+            answer: Answer::ShortBuffer,
+            next: p,
+        };
+    }
+    let a = tile_args(sbmul, sb128, seq_sb128, w, h, level, tier);
+    if in_domain(a) {
+        return read_layout(s, p, a, &mut *info, &mut *cols, &mut *rows);
+    }
+    // No bit is used.
+    let here = read_bits(s, p, 0);
+    let next = here.next;
+    TileOutcome {
+        answer: Answer::WrongArguments,
+        next,
+    }
 }
 
 pub fn parse_tile_info(
@@ -185,16 +311,26 @@ pub fn parse_tile_info(
         → Demand3 (now (s .entry)) p (argsOf sbmul sb128 «seq_sb128» w h level tier) r) ⌝ }
     ensures { λ r. ⌜ ReadOver thdr r ⌝ }
 {
-    let a = tile_args(sbmul, sb128, seq_sb128, w, h, level, tier);
-    if in_domain(a) {
-        return read_layout(s, p, thdr, a);
-    }
-    // No bit is used.
-    let here = read_bits(s, p, 0);
-    let next = here.next;
-    TileRead {
-        answer: Answer::WrongArguments,
-        info: thdr,
-        next,
-    }
+    let mut info = [0u8; 9];
+    let mut cols = [0u16; 65];
+    let mut rows = [0u16; 65];
+    put_tile_info(thdr, &mut info, &mut cols, &mut rows);
+    let r = parse_tile_info_into(
+        s,
+        p,
+        &mut info,
+        &mut cols,
+        &mut rows,
+        sbmul,
+        sb128,
+        seq_sb128,
+        w,
+        h,
+        level,
+        tier,
+    );
+    let answer = r.answer;
+    let next = r.next;
+    let info = tile_info_of(&info, &cols, &rows);
+    TileRead { answer, info, next }
 }

@@ -2,14 +2,14 @@
 ghost use mathlib.Core.Path.{_≡_};
 ghost use mathlib.Core.Bool.{true};
 ghost use Prim.Native.Nat.{_≤_};
-ghost use lib.ListN.{replicate};
+ghost use lib.ListN.{length, drop};
 ghost use Rattle.tile_layout.specs.Limits.{inDomain};
 ghost use Rattle.tile_layout.specs.Layout.{readSizes, rowLimit};
 ghost use Rattle.tile_info.specs.Inner.{Known, SizesOf, TilesOf};
 use super::limits::FrameLimits;
+use flat::clear_starts;
 use getbits::Place;
 use superblocks::FrameSb;
-use superblocks::put_start;
 use superblocks::read_size;
 use superblocks::tiles_log2;
 use tile_layout::TileArgs;
@@ -21,17 +21,18 @@ pub struct Sizes {
     pub next: Place,
 }
 
-// Sizes are read until nothing of `total` remains or there are 64.
-fn read_sizes(s: &[u8], p: Place, starts: &mut [u16; 65], total: FrameSb, limit: FrameSb) -> Sizes
-    requires { ⌜ (now starts ≡ replicate 65 0) × (total .0 ≤ 1024) × (1 ≤ limit .0) ⌝ }
-    ensures { λ r. ⌜ SizesOf (readSizes 64 (now (s .entry)) p (total .0) (limit .0)) r (now (starts .exit)) ⌝ }
+// Sizes are read until nothing of `total` remains or there are 64. Zeros stand behind their starts.
+fn read_sizes(s: &[u8], p: Place, starts: &mut [u16], total: FrameSb, limit: FrameSb) -> Sizes
+    requires { ⌜ (65 ≤ length (now starts)) × (total .0 ≤ 1024) × (1 ≤ limit .0) ⌝ }
+    ensures { λ r. ⌜ SizesOf (readSizes 64 (now (s .entry)) p (total .0) (limit .0)) r (drop 65 (now (starts .entry))) (now (starts .exit)) ⌝ }
 {
+    clear_starts(&mut *starts);
     let mut next = p;
     let mut sbx = FrameSb::none();
     let mut widest_tile = FrameSb::none();
     let mut tiles: u8 = 0;
     while sbx.below(total) && tiles < 64 {
-        put_start(starts, tiles, sbx);
+        starts[tiles as usize] = sbx.number();
         let z = read_size(s, next, total.minus(sbx), limit);
         next = z.next;
         widest_tile = widest_tile.most(z.size);
@@ -55,19 +56,13 @@ pub struct Tiles {
 }
 
 // The columns or rows of a layout, with the closing entry; `short` says that they leave superblocks over.
-pub fn read_tiles(
-    s: &[u8],
-    p: Place,
-    starts: &mut [u16; 65],
-    total: FrameSb,
-    limit: FrameSb,
-) -> Tiles
-    requires { ⌜ (now starts ≡ replicate 65 0) × (total .0 ≤ 1024) × (1 ≤ limit .0) ⌝ }
-    ensures { λ r. ⌜ TilesOf (readSizes 64 (now (s .entry)) p (total .0) (limit .0)) (total .0) r (now (starts .exit)) ⌝ }
+pub fn read_tiles(s: &[u8], p: Place, starts: &mut [u16], total: FrameSb, limit: FrameSb) -> Tiles
+    requires { ⌜ (65 ≤ length (now starts)) × (total .0 ≤ 1024) × (1 ≤ limit .0) ⌝ }
+    ensures { λ r. ⌜ TilesOf (readSizes 64 (now (s .entry)) p (total .0) (limit .0)) (total .0) r (drop 65 (now (starts .entry))) (now (starts .exit)) ⌝ }
 {
-    let z = read_sizes(s, p, starts, total, limit);
+    let z = read_sizes(s, p, &mut *starts, total, limit);
     let tiles = z.tiles;
-    put_start(starts, tiles, total);
+    starts[tiles as usize] = total.number();
     let log2 = tiles_log2(tiles);
     let short = z.sum.below(total);
     let widest = z.widest;

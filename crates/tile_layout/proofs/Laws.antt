@@ -5,7 +5,7 @@ use Prim.Native.Nat.{ℕ, zero, suc, _+_, _-_, _*_, _≤_, _<_}
 use native.Mathlib.Nat.{add-zero, zero-add, mul-suc}
 use native.Mathlib.Numerals.{add-one}
 use native.Mathlib.Omega.{arith}
-use lib.ListN.{length, getD, set, replicate, length-append, List·getD-append}
+use lib.ListN.{length, getD, set, replicate, length-append, length-replicate, List·getD-append}
 use lib.Seq.{getD-at, set-at}
 use Rattle.getbits.proofs.Stores.{zeros-at}
 use Rattle.tile_layout.specs.Layout.{tabulate, padded, sum}
@@ -63,23 +63,30 @@ module _ (f : ℕ → ℕ) (n closing : ℕ) where
       let l = length-tabulate f 0 n in
       padded-at (tabulate f 0 n) closing n (omega arith) ∙ getD-at (tabulate f 0 n) closing [] 0 n l
 
--- a list with zeros behind it grows by one at its end
-pub grow : (xs : List ℕ) (n v : ℕ) → length xs ≡ n → n < 65 → set (padded xs) n v ≡ padded (xs ++ (v ∷ []))
-grow xs n v e h =
+-- at most 65 entries, with zeros behind them, are 65
+pub padded-length : (xs : List ℕ) → length xs ≤ 65 → length (padded xs) ≡ 65
+padded-length xs h = length-append xs (replicate (65 - length xs) 0) ∙ omega (arith, length-replicate {A = ℕ} (65 - length xs) 0)
+
+-- a list with zeros behind it, before other numbers, grows by one at its end
+pub grow : (xs rest : List ℕ) (n v : ℕ) → length xs ≡ n → n < 65 → set (padded xs ++ rest) n v ≡ padded (xs ++ (v ∷ [])) ++ rest
+grow xs rest n v e h =
     let q : 65 - length xs ≡ suc (65 - length (xs ++ (v ∷ []))) = omega (arith, length-append xs (v ∷ [])) in
-    let rest : List ℕ = replicate (65 - length (xs ++ (v ∷ []))) 0 in
-    ap (λ (k : ℕ). set (xs ++ replicate k 0) n v) q ∙ set-at xs 0 rest v n e ∙ sym (append-assoc xs (v ∷ []) rest)
+    let zeros : List ℕ = replicate (65 - length (xs ++ (v ∷ []))) 0 in
+    ap (λ (k : ℕ). set ((xs ++ replicate k 0) ++ rest) n v) q
+    ∙ ap (λ (l : List ℕ). set l n v) (append-assoc xs (0 ∷ zeros) rest)
+    ∙ set-at xs 0 (zeros ++ rest) v n e
+    ∙ sym (ap (λ (l : List ℕ). l ++ rest) (append-assoc xs (v ∷ []) zeros) ∙ append-assoc xs (v ∷ zeros) rest)
 
 -- a start is stored
-pub stored : (f : ℕ → ℕ) (n v : ℕ) → v ≡ f n → n < 65 → set (padded (tabulate f 0 n)) n v ≡ padded (tabulate f 0 (n + 1))
-stored f n v e h =
-    grow (tabulate f 0 n) n v (length-tabulate f 0 n) h
-    ∙ ap (λ (w : ℕ). padded (tabulate f 0 n ++ (w ∷ []))) (e ∙ ap f (sym (zero-add n)))
-    ∙ ap padded (sym (tabulate-more f 0 n) ∙ ap (tabulate f 0) (sym (add-one n)))
+pub stored : (f : ℕ → ℕ) (rest : List ℕ) (n v : ℕ) → v ≡ f n → n < 65 → set (padded (tabulate f 0 n) ++ rest) n v ≡ padded (tabulate f 0 (n + 1)) ++ rest
+stored f rest n v e h =
+    grow (tabulate f 0 n) rest n v (length-tabulate f 0 n) h
+    ∙ ap (λ (w : ℕ). padded (tabulate f 0 n ++ (w ∷ [])) ++ rest) (e ∙ ap f (sym (zero-add n)))
+    ∙ ap (λ (l : List ℕ). padded l ++ rest) (sym (tabulate-more f 0 n) ∙ ap (tabulate f 0) (sym (add-one n)))
 
 -- and the closing one
-pub closed : (f : ℕ → ℕ) (n v : ℕ) → n < 65 → set (padded (tabulate f 0 n)) n v ≡ padded (tabulate f 0 n ++ (v ∷ []))
-closed f n v h = grow (tabulate f 0 n) n v (length-tabulate f 0 n) h
+pub closed : (f : ℕ → ℕ) (rest : List ℕ) (n v : ℕ) → n < 65 → set (padded (tabulate f 0 n) ++ rest) n v ≡ padded (tabulate f 0 n ++ (v ∷ [])) ++ rest
+closed f rest n v h = grow (tabulate f 0 n) rest n v (length-tabulate f 0 n) h
 
 -- what two lists add up to
 pub sum-append : (xs ys : List ℕ) → sum (xs ++ ys) ≡ sum xs + sum ys

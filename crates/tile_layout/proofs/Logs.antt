@@ -1,17 +1,20 @@
 -- The least logarithm, and the logarithm that is read. Assumes nothing.
+use mathlib.Core.Logic.{⊎-elim}
 use mathlib.Core.Path.{_≡_, refl, sym, _∙_, ap}
 use mathlib.Core.List.{List}
 use Prim.Native.Nat.{ℕ, zero, suc, _+_, _-_, _*_, _^_, _≤_, _<_}
-use native.Mathlib.Nat.{mul-one, mul-assoc, mul-comm, pow-suc}
+use native.Mathlib.Nat.{mul-one, mul-assoc, mul-comm, pow-suc, mul-le-mul-left, mul-le-mul-right, mul-lt-mul-of-pos-right, lt-of-lt-of-le}
 use native.Mathlib.Numerals.{add-one}
 use native.Mathlib.Omega.{arith}
 use lib.Dec.{ltb, eqb}
-use borrow.Author.Tests.{ltb-false, lt-ltb, le-ltb}
+use lib.Pow.{pow-add, pow-mono, pow-pos}
+use borrow.Author.Tests.{ltb-false, le-ltb}
 use Rattle.getbits.specs.Bits.{getBit}
 use Rattle.getbits.specs.Chain.{then}
 use Rattle.getbits.specs.declared.Number.{Number}
 use Rattle.getbits.specs.declared.Place.{Place}
 use Rattle.getbits.proofs.Chain.{picked}
+use Rattle.getbits.proofs.Places.{lt-or-le}
 use Rattle.codes.specs.Codes.{plus, runOf}
 use Rattle.tile_layout.specs.Limits.{doublings}
 use Rattle.tile_layout.specs.Layout.{readLog2}
@@ -20,27 +23,11 @@ use Rattle.tile_layout.specs.Layout.{readLog2}
 pub twice : (sz k : ℕ) → sz * 2 ^ suc k ≡ sz * 2 * 2 ^ k
 twice sz k = ap (_*_ sz) (pow-suc 2 k ∙ mul-comm (2 ^ k) 2) ∙ sym (mul-assoc sz 2 (2 ^ k))
 
--- the loop's two ways
-pub double-more : (most sz tgt : ℕ) → sz < tgt → doublings (suc most) sz tgt ≡ doublings most (sz * 2) tgt + 1
-unfolding doublings
-double-more most sz tgt h = rw (lt-ltb sz tgt h)
-
-pub double-none : (most sz tgt : ℕ) → tgt ≤ sz → doublings most sz tgt ≡ 0
+-- none is needed
+double-none : (most sz tgt : ℕ) → tgt ≤ sz → doublings most sz tgt ≡ 0
 unfolding doublings
 double-none zero sz tgt h = refl
 double-none (suc most) sz tgt h = rw (le-ltb sz tgt h)
-
--- a turn of the loop, with k of at most n doublings done
-pub double-turn : (n k sz tgt : ℕ) → sz < tgt → k ≤ n → tgt ≤ sz * 2 ^ (n - k)
-    → (k + 1 ≤ n) × (tgt ≤ sz * 2 * 2 ^ (n - (k + 1))) × (doublings (n - (k + 1)) (sz * 2) tgt + (k + 1) ≡ doublings (n - k) sz tgt + k)
-double-turn n k sz tgt h le reach = go (n - k) refl reach
-  where
-    go : (m : ℕ) → n - k ≡ m → tgt ≤ sz * 2 ^ m
-        → (k + 1 ≤ n) × (tgt ≤ sz * 2 * 2 ^ (n - (k + 1))) × (doublings (n - (k + 1)) (sz * 2) tgt + (k + 1) ≡ doublings m sz tgt + k)
-    go zero e r = absurd (omega (arith, mul-one sz, r))
-    go (suc m) e r =
-        let q : n - (k + 1) ≡ m = omega arith in
-        rw q (omega arith, rw twice at r, omega (arith, double-more m sz tgt h))
 
 -- it reaches the target
 pub reaches : (most sz tgt : ℕ) → tgt ≤ sz * 2 ^ most → tgt ≤ sz * 2 ^ doublings most sz tgt
@@ -60,6 +47,52 @@ least (suc most) sz tgt (suc j) h =
     picked (λ (k : ℕ). k ≤ suc j) (ltb sz tgt) (doublings most (sz * 2) tgt + 1) 0
     (λ e. omega (arith, least most (sz * 2) tgt j (rw twice at h)))
     (λ e. omega arith)
+
+-- by their bit lengths a and b: the difference, or one more where that is not enough
+module _ (a b sz tgt : ℕ) (under : sz < 2 ^ a) (top : 2 ^ a ≤ 2 * sz + 1) (tgt-under : tgt < 2 ^ b) (tgt-top : 2 ^ b ≤ 2 * tgt + 1) (some : 1 ≤ sz) where
+  half : (n m : ℕ) → 2 ^ suc n ≤ 2 * m + 1 → 2 ^ n ≤ m
+  half n m h = omega (arith, pow-suc 2 n, h)
+
+  -- one more is always enough
+  enough : (k : ℕ) → b - a ≡ k → tgt ≤ sz * 2 ^ (k + 1)
+  enough k e = go a refl
+    where
+      go : (n : ℕ) → a ≡ n → tgt ≤ sz * 2 ^ (k + 1)
+      go zero z = absurd (omega (arith, ap (λ (x : ℕ). 2 ^ x) z, under, some))
+      go (suc n) z =
+          let low : 2 ^ n ≤ sz = half n sz (rw z at top) in
+          let long : 2 ^ b ≤ 2 ^ n * 2 ^ (k + 1) = rw (← pow-add 2 n (k + 1)) (pow-mono (omega arith)) in
+          omega (arith, tgt-under, long, mul-le-mul-right (2 ^ (k + 1)) low)
+
+  -- and one less never is
+  less : (k : ℕ) → b - a ≡ suc k → sz * 2 ^ k < tgt
+  less k e =
+      let q : b ≡ suc (a + k) = omega arith in
+      let low : 2 ^ (a + k) ≤ tgt = half (a + k) tgt (rw q at tgt-top) in
+      lt-of-lt-of-le (rw (pow-add 2 a k) (mul-lt-mul-of-pos-right under (pow-pos k))) low
+
+  module _ (low : tgt ≤ 2 ^ 20) where
+    reached : tgt ≤ sz * 2 ^ doublings 20 sz tgt
+    reached = reaches 20 sz tgt (omega (arith, low, mul-le-mul-right (2 ^ 20) some))
+
+    pub log-more : sz * 2 ^ (b - a) < tgt → doublings 20 sz tgt ≡ b - a + 1
+    log-more h =
+        let d = doublings 20 sz tgt in
+        ⊎-elim
+        (λ l. omega (arith, least 20 sz tgt (b - a + 1) (enough (b - a) refl)))
+        (λ l. absurd (omega (arith, h, reached, mul-le-mul-left sz (pow-mono l))))
+        (lt-or-le (b - a) d)
+
+    pub log-is : tgt ≤ sz * 2 ^ (b - a) → doublings 20 sz tgt ≡ b - a
+    log-is h = go (b - a) refl h
+      where
+        go : (k : ℕ) → b - a ≡ k → tgt ≤ sz * 2 ^ k → doublings 20 sz tgt ≡ k
+        go zero e r = omega (arith, least 20 sz tgt 0 r)
+        go (suc k) e r =
+            ⊎-elim
+            (λ l. omega (arith, least 20 sz tgt (suc k) r))
+            (λ l. absurd (omega (arith, less k e, reached, mul-le-mul-left sz (pow-mono l))))
+            (lt-or-le k (doublings 20 sz tgt))
 
 -- a run is no longer than it may be
 pub run-le : (bit k : ℕ) (s : List ℕ) (p : Place) → runOf bit k s p .value ≤ k

@@ -35,6 +35,15 @@ sizes-read (suc most) s p (suc n) limit l =
       some = λ h g. omega arith;
     }
 
+-- where at most as many superblocks remain as there may be sizes, the sizes fill them
+pub all-filled : (most : ℕ) (s : List ℕ) (p : Place) (remains limit : ℕ) → remains ≤ most → remains ≤ sum (readSizes most s p remains limit .sizes)
+unfolding readSizes sum then
+all-filled zero s p remains limit h = omega arith
+all-filled (suc most) s p zero limit h = omega arith
+all-filled (suc most) s p (suc k) limit h =
+    let g = getUniform s p (min (suc k) limit) in
+    omega (arith, all-filled most s (g .next) (suc k - (g .value + 1)) limit (omega arith))
+
 pub below-widest : (sizes : List ℕ) (k : ℕ) → k < length sizes → getD sizes k 0 ≤ widest sizes
 unfolding widest
 below-widest [] k h = absurd (omega arith)

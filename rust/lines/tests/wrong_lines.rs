@@ -17,7 +17,7 @@ struct Place {
 const FILL: Place = Place {
     krate: "tile_info",
     file: "uniform.rt",
-    behind: "put_start(starts, i, sbx.in_frame(pair));",
+    behind: "starts[i as usize] = sbx.in_frame(pair).number();",
 };
 
 /// Where a row of superblocks is split: `fsb` and `ssb` count the sequence's and `end` the frame's.
@@ -38,21 +38,21 @@ const SIZES: Place = Place {
 const DOUBLED: Place = Place {
     krate: "frame_hdr",
     file: "reuse.rt",
-    behind: "put_start(&mut at, i, starts.start(i).in_frame(pair));",
+    behind: "at[i as usize] = seq_start(starts, i).in_frame(pair).number();",
 };
 
 /// Where a reused layout is closed: `closing` counts the frame's superblocks.
 const CLOSED: Place = Place {
     krate: "frame_hdr",
     file: "reuse.rt",
-    behind: "put_start(&mut at, tiles, closing_entry(starts, pair, tiles, closing));",
+    behind: "at[tiles as usize] = closing_entry(starts, pair, tiles, closing).number();",
 };
 
 /// Where the frame's counts are compared with the sequence's.
 const COUNTS: Place = Place {
     krate: "frame_hdr",
     file: "reuse.rt",
-    behind: "let seq_sbh = pair.seq_count(not_below_0(seq.max_height));",
+    behind: "let seq_sbh = pair.seq_count(not_below_0(max_height));",
 };
 
 /// The line, and what the compiler says of it.
@@ -107,7 +107,7 @@ const LINES: &[(&Place, &str, &str)] = &[
     (
         &FILL,
         "let mixed = sbx.plus(seq_sb(end.number()));",
-        "error[unknown-method]: no method named number found for type FrameSb",
+        "error[unknown-name]: cannot find value seq_sb in this scope",
     ),
     (
         &FILL,
@@ -117,7 +117,7 @@ const LINES: &[(&Place, &str, &str)] = &[
     (
         &SPLIT,
         "let mixed = ((n + 7) >> sbsz_log2(a.seq_code)) + end.number();",
-        "error[unknown-method]: no method named number found for type FrameSb",
+        "error[unknown-name]: cannot find value sbsz_log2 in this scope",
     ),
     (
         &SPLIT,
@@ -138,12 +138,12 @@ const LINES: &[(&Place, &str, &str)] = &[
     (
         &SPLIT,
         "let mixed = split.extra + end.number();",
-        "error[unknown-method]: no method named number found for type FrameSb",
+        "error[invalid-operand-type]: expected a number, found TileCount",
     ),
     (
         &SPLIT,
         "let mixed = split.tiles + end.number();",
-        "error[unknown-method]: no method named number found for type FrameSb",
+        "error[invalid-operand-type]: expected a number, found TileCount",
     ),
     (
         &SPLIT,
@@ -190,32 +190,32 @@ const LINES: &[(&Place, &str, &str)] = &[
     // The starts of a reused layout.
     (
         &DOUBLED,
-        "let mixed = starts[i as usize] + at[i as usize];",
-        "error[not-an-array]: cannot index into a value of type SeqStarts",
+        "let mixed = seq_start(starts, i).plus(at[i as usize]);",
+        "error[mismatched-types]: expected SeqSb, found u16",
     ),
     (
         &DOUBLED,
-        "let mixed = starts.start(i) + at[i as usize];",
+        "let mixed = seq_start(starts, i) + at[i as usize];",
         "error[invalid-operand-type]: expected a number, found SeqSb",
     ),
     (
         &DOUBLED,
-        "put_start(&mut at, i, starts.start(i));",
-        "error[mismatched-types]: expected FrameSb, found SeqSb",
+        "at[i as usize] = seq_start(starts, i).number();",
+        "error[unknown-method]: no method named number found for type SeqSb",
     ),
     (
         &CLOSED,
-        "let mixed = starts[0] + closing.start();",
-        "error[not-an-array]: cannot index into a value of type SeqStarts",
+        "let mixed = starts[0] + closing;",
+        "error[mismatched-types]: expected u16, found FrameSb",
     ),
     (
         &CLOSED,
-        "let mixed = starts.start(0).plus(closing);",
+        "let mixed = seq_start(starts, 0).plus(closing);",
         "error[mismatched-types]: expected SeqSb, found FrameSb",
     ),
     (
         &CLOSED,
-        "let mixed = closing.plus(starts.start(0));",
+        "let mixed = closing.plus(seq_start(starts, 0));",
         "error[mismatched-types]: expected FrameSb, found SeqSb",
     ),
     (
@@ -250,11 +250,11 @@ const RIGHT: &[(&Place, &str)] = &[
     (&SIZES, "let right = total.plus(sbx);"),
     (
         &DOUBLED,
-        "let right = starts.start(i).plus(starts.start(0));",
+        "let right = seq_start(starts, i).plus(seq_start(starts, 0));",
     ),
     (
         &CLOSED,
-        "let right = starts.start(0).in_frame(pair).plus(closing);",
+        "let right = seq_start(starts, 0).in_frame(pair).plus(closing);",
     ),
     (&COUNTS, "let right = sbw.plus(seq_sbw.in_frame(pair));"),
 ];

@@ -92,7 +92,8 @@ impl<T: Copy + Into<i64>, const N: usize> Row<'_, T, N> {
 }
 
 /// The header of a row of numbers. The fields stand in the order of the row, not in that of their declaration.
-#[inline(always)]
+// Inlined, it would make the fields on the stack first and copy them into the record.
+#[inline(never)]
 pub(crate) fn sequence_header(numbers: &[i64; HEADER_NUMBERS], t: TileInfo) -> SequenceHeader {
     let mut row = Row { numbers, next: 0 };
     SequenceHeader {

@@ -10,6 +10,7 @@ use Rattle.flat.specs.Layout.{Buffers, buffers, hasRoom}
 use Rattle.capi.specs.Calls.{lentHeader}
 use Rattle.lent.specs.Lent.{isSet, placeOf}
 use Rattle.seq_hdr.proofs.Refused.{Refused, header-refused}
+use Rattle.seq_hdr.specs.Numbers.{wholeHeader}
 use Rattle.lent.proofs.Calls.{row, triple, first-fails, second-fails}
 use Rattle.capi.proofs.Left.{never-5, header-read, header-left}
 use Rattle.capi.proofs.mubanlig_parse_seq_hdr.Statement.{statement}
@@ -38,24 +39,24 @@ returns-3 : tie.Need-returns-3
 unfolding lentHeader
 returns-3 c =
     let t = c .before .before .before .before .before .before .before in
-    let h = t .before .before .before .before .before in
-    let q = h .before .before in
-    let r = q .before .before .before in
-    let p = r .before .before in
+    let q = t .before .before .before .before in
+    let r = q .before .before .before .before in
+    let p = r .before .before .before in
     let k = p .before .before .before in
     let i = k .before .before .before .before .before in
     let s = i .before .before .before .before .before in
     let a = s .args in
-    let x = r .parse-seq-hdr .result in
+    let x = wholeHeader (r .read-seq-hdr .result) in
     let put = t .put-tile-info .ensures in
+    let numbers = r .read-seq-hdr .ensures .1 .1 in
     let has : hasRoom (given s) ≡ true = sym (k .before .has-room .ensures) ∙ not-false (k .before .has-room .result) (k .if2 .left) in
-    let read = rw (p .place-of .ensures, r .before .is-set .ensures) at (r .parse-seq-hdr .ensures .0) in
-    let layout = rw (p .place-of .ensures) at (r .parse-seq-hdr .ensures .1) in
+    let read = rw (p .place-of .ensures, r .before .before .is-set .ensures) at (r .read-seq-hdr .ensures .0) in
+    let layout = rw (p .place-of .ensures) at (r .read-seq-hdr .ensures .1 .0) in
     let long = le-leb 146 (length (a .hdr .now)) (i .if1 .left) in
     let room = both-hold long has in
     let answer : Refused x = rw read (header-refused (a .s .now) (placeOf (a .position .now) (a .error .now)) (isSet (a .strict))) in
-    let w = header-read x (c .number .result) (a .hdr .now) (given s) (c .number .ensures) answer long has (h .put-seq-hdr .ensures) (put .0) in (
-      triple (row (x .answer) (x .next) (a .error .now) (c .number .ensures) (q .put-place .ensures)) (h .put-seq-hdr .ensures) (put .0) ∙ sym (taken _ _ _ room ∙ through _ _ read),
+    let w = header-read x (c .number .result) (a .hdr .now) (given s) (c .number .ensures) answer long has numbers (put .0) in (
+      triple (row (x .answer) (x .next) (a .error .now) (c .number .ensures) (q .put-place .ensures)) numbers (put .0) ∙ sym (taken _ _ _ room ∙ through _ _ read),
       (
         λ e. absurd (w .not-5 e),
         (
@@ -81,7 +82,6 @@ mubanlig-parse-seq-hdr-spec =
     (λ c. search needs)
     (λ c. search needs)
     returns-2
-    (λ c κs. search needs)
     (λ c κs. search needs)
     (λ c κs. search needs)
     (λ c κs. search needs)

@@ -1,6 +1,6 @@
 -- `capi::mubanlig_parse_tile_info_frmhdr` meets its contract. Assumes nothing.
 use mathlib.Core.Bool.{Bool, true, _&&_}
-use mathlib.Core.Path.{_≡_, refl, sym, ap, subst, _∙_}
+use mathlib.Core.Path.{_≡_, refl, sym, ap, _∙_}
 use native.Mathlib.Omega.{arith}
 use borrow.Author.Needs.{needs}
 use borrow.Author.Tests.{not-true, not-false}
@@ -8,19 +8,19 @@ use mir.Facts.{toZ-ofZ}
 use Rattle.answers.proofs.Numbers.{accepted-by-0}
 use Rattle.answers.specs.declared.Answer.the-variants.{WrongArguments, ShortBuffer}
 use Rattle.getbits.proofs.Callers.{as-read, read-none}
-use Rattle.getbits.proofs.Chain.{contrary, through, taken, left, both, both-hold}
+use Rattle.getbits.proofs.Chain.{contrary, through, taken, left, both-hold}
 use Rattle.getbits.specs.declared.Number.{Number}
 use Rattle.getbits.specs.declared.Place.{Place}
 use Rattle.lent.specs.Lent.{placeOf}
 use Rattle.frame_hdr.proofs.Cleared.{frame-promised}
-use Rattle.frame_hdr.specs.Frame.{FrameLayout, parseTileInfoFrmhdr, frameTiles}
+use Rattle.frame_hdr.specs.Frame.{parseTileInfoFrmhdr, frameTiles}
 use Rattle.frame_hdr.specs.declared.FrameHeader.{FrameHeader}
 use Rattle.frame_hdr.specs.declared.SeqLayout.{SeqLayout}
 use Rattle.flat.specs.Layout.{Buffers, buffers, hasRoom}
 use Rattle.lent.specs.Calls.{answered}
-use Rattle.lent_tiles.specs.Calls.{handedFrame, isKnown, frameGiven, seqGiven, lentFrames, lentFrame}
+use Rattle.lent_tiles.specs.Calls.{isKnown, frameGiven, seqGiven, lentFrames}
 use Rattle.lent.proofs.Calls.{row, triple, first-fails, second-fails}
-use Rattle.lent_tiles.proofs.Left.{frames-short, frame-number, code-kept, frame-kept, cleared-left, demand3-left}
+use Rattle.lent_tiles.proofs.Left.{frames-short, frame-number, code-kept, frame-kept, frame-into-handed, frame-into-answer, cleared-left, demand3-left}
 use Rattle.capi.proofs.mubanlig_parse_tile_info_frmhdr.Statement.{statement}
 use Rattle.capi.proofs.mubanlig_parse_tile_info_frmhdr.Tie as tie
 
@@ -44,40 +44,12 @@ place s = placeOf (s .args .position .now) (s .args .error .now)
 abbrev known-type : tie.Start → Bool
 known-type s = isKnown (s .args .frame-type) (s .args .present)
 
-abbrev start : tie.After-frame-layout → tie.Start
-start k = k .before .before .before .before .before .before .before .before .before .before .before .before .before .before .before .before .before .before .before .before .before .before .before .before .before .before
-
 -- the buffers have room
 roomy : (k : tie.Else2) → hasRoom (own (k .before .before .before .before .before .before .before .before .before .before .before .before .before .before)) && hasRoom (theirs (k .before .before .before .before .before .before .before .before .before .before .before .before .before .before)) ≡ true
 roomy k =
     let e = k .before .before in
     both-hold (sym (e .before .has-room .ensures) ∙ not-false (e .before .has-room .result) (e .if1 .left))
     (sym (k .before .has-room2 .ensures) ∙ not-false (k .before .has-room2 .result) (k .if2 .left))
-
-room : (k : tie.After-frame-layout) → hasRoom (own (start k)) && hasRoom (theirs (start k)) ≡ true
-room k = roomy (k .before .before .before .before .before .before .before .before .before .before .before .before)
-
-known : (k : tie.After-frame-layout) → known-type (start k) ≡ true
-known k =
-    let e = k .before .before .before .before .before .before .before in
-    sym (e .before .is-known .ensures) ∙ not-false (e .before .is-known .result) (e .if3 .left)
-
-read : (k : tie.After-frame-layout) → k .frame-layout .result ≡ parseTileInfoFrmhdr (start k .args .s .now) (place (start k)) (header (start k)) (sequence (start k))
-read k =
-    let s = start k in
-    rw (k .before .before .before .before .before .before .before .before .before .place-of .ensures, k .before .seq-given .ensures, k .before .before .frame-given .ensures, toZ-ofZ (s .fits .width), toZ-ofZ (s .fits .height), toZ-ofZ (s .fits .max-width), toZ-ofZ (s .fits .max-height)) at (k .frame-layout .ensures .0)
-
-promised : (k : tie.After-frame-layout) → FrameLayout (start k .args .s .now) (place (start k)) (header (start k)) (sequence (start k)) (k .frame-layout .result)
-promised k =
-    let s = start k in
-    subst (FrameLayout (s .args .s .now) (place s) (header s) (sequence s)) (sym (read k)) (frame-promised (s .args .s .now) (place s) (header s) (sequence s))
-
--- what the definition says, once the layout is read
-meaning : (k : tie.After-frame-layout)
-    → lentFrame (start k .args .s .now) (start k .args .position .now) (start k .args .error .now) (own (start k)) (theirs (start k)) (known-type (start k)) (header (start k)) (sequence (start k))
-    ≡ handedFrame (k .frame-layout .result) (start k .args .error .now) (start k .args .sb128 .now) (own (start k))
-unfolding lentFrames
-meaning k = taken _ _ _ (room k) ∙ taken _ _ _ (known k) ∙ through _ _ (read k)
 
 returns : tie.Need-returns
 returns c =
@@ -111,19 +83,44 @@ returns-3 c =
     )
 
 returns-4 : tie.Need-returns-4
+unfolding lentFrames
 returns-4 c =
-    let d = c .before .before .before .before .before .before in
-    let k = d .before .before .before .before .before .before .before in
-    let s = start k in
-    let x = k .frame-layout .result in
-    let back = d .hand-back-frame .ensures in
-    let number = frame-number x (s .args .error .now) (s .args .sb128 .now) (own s) (back .0) in
-    let kept = frame-kept x (s .args .error .now) (s .args .sb128 .now) (own s) (back .0) in
-    let info = back .1 (both (hasRoom (own s)) (hasRoom (theirs s)) (room k) .0) in (
-      back .0 ∙ sym (meaning k),
+    let k = c .before .before .before .before .before .before .before .before .before .before in
+    let n = k .before in
+    let o = n .before .before .before .before .before in
+    let e = o .before in
+    let g = e .before in
+    let p = g .before in
+    let x = p .before .before .before in
+    let s = x .before .before .before .before .before .before .before .before .before .before .before .before .before .before in
+    let a = s .args in
+    let f = s .fits in
+    let b = own s in
+    let h = header s in
+    let q = sequence s in
+    let has = roomy x in
+    let known = sym (g .is-known .ensures) ∙ not-false (g .is-known .result) (e .if3 .left) in
+    let sized = rw (toZ-ofZ (f .width), toZ-ofZ (f .height), toZ-ofZ (f .max-width), toZ-ofZ (f .max-height)) at (k .frame-layout-into .ensures) in
+    let into = rw (p .place-of .ensures, o .frame-type-of .ensures, n .present-of .ensures) at sized in
+    let z = parseTileInfoFrmhdr (a .s .now) (place s) h q in
+    let back = frame-into-handed (a .s .now) (place s) h q b (theirs s) has (into .0) (a .error .now) (c .number .ensures) (c .before .put-place2 .ensures) in
+    let number = frame-number z (a .error .now) (a .sb128 .now) b back in
+    let kept = frame-kept z (a .error .now) (a .sb128 .now) b back in
+    let same = frame-into-answer (a .s .now) (place s) h q b (theirs s) has (into .0) in
+    let promised = frame-promised (a .s .now) (place s) h q in (
+      back ∙ sym (taken _ _ _ has ∙ taken _ _ _ known ∙ through _ _ refl),
       (
-        code-kept x (s .args .error .now) (s .args .sb128 .now) (own s) (back .0),
-        (λ n. ap (λ (b : Buffers). b .bytes) (kept n), (λ n. ap (λ (b : Buffers). b .col-starts) (kept n), (λ n. ap (λ (b : Buffers). b .row-starts) (kept n), (λ _ _ a f. demand3-left (frameTiles x) _ _ number info (promised k .fresh a f), cleared-left (frameTiles x) _ _ number info (promised k .over))))),
+        code-kept z (a .error .now) (a .sb128 .now) b back,
+        (
+          λ n. ap (λ (b : Buffers). b .bytes) (kept n),
+          (
+            λ n. ap (λ (b : Buffers). b .col-starts) (kept n),
+            (
+              λ n. ap (λ (b : Buffers). b .row-starts) (kept n),
+              (λ _ _ d f. demand3-left (frameTiles z) _ _ number (λ fine. into .1 has (same ∙ fine)) (promised .fresh d f), cleared-left (frameTiles z) _ _ number (λ fine. into .1 has (same ∙ fine)) (promised .over)),
+            ),
+          ),
+        ),
       ),
     )
 
@@ -149,6 +146,7 @@ mubanlig-parse-tile-info-frmhdr-spec =
     (λ c. search needs)
     (λ c. search needs)
     returns-3
+    (λ c κs. search needs)
     (λ c κs. search needs)
     (λ c κs. search needs)
     (λ c κs. search needs)

@@ -1,12 +1,12 @@
 -- `capi_bits::mubanlig_get_bit` meets its contract. Assumes nothing.
-use mathlib.Core.Path.{refl, ap, _∙_}
+use mathlib.Core.Path.{refl, sym, ap, _∙_}
 use Prim.Native.Nat.{_/_}
 use native.Mathlib.Omega.{arith}
-use Prim.Native.Nat.{_/_}
-use native.Mathlib.Omega.{arith}
-use mathlib.Core.Path.{ap, _∙_}
 use borrow.Author.Needs.{needs}
+use Rattle.getbits.proofs.Callers.{width-in}
+use Rattle.getbits.specs.Bits.{getBit}
 use Rattle.getbits.specs.declared.Number.{Number}
+use Rattle.lent.specs.Lent.{placeOf}
 use Rattle.capi_bits.specs.Numbers.{lentNumber}
 use Rattle.capi_bits.proofs.Ahead.{bit-on}
 use Rattle.capi_bits.proofs.mubanlig_get_bit.Statement.{statement}
@@ -22,10 +22,22 @@ returns c =
     bit-on (a .s .now) (a .position .now) (a .error .now) (search needs) refl (k .wrapping-add-usize .ensures)
 
 returns-2 : tie.Need-returns-2
+unfolding getBit
 returns-2 c =
-    let k = c .before .before .before in
-    let start = k .before .before .before .before .before .before in
-    c .hand-back .ensures ∙ ap (λ (x : Number). lentNumber x (start .args .error .now)) (rw (k .before .place-of .ensures) at (k .get-bit .ensures))
+    let a = c .before .before .before .before .before .before .args in
+    c .read-bits .ensures
+    ∙ ap (λ (x : Number). lentNumber x (a .error .now)) (sym (width-in (a .s .now) (placeOf (a .position .now) (a .error .now)) 1 (omega arith)))
 
 pub mubanlig-get-bit-spec : {M : Type 1} → statement M
-mubanlig-get-bit-spec = tie.close (tie.spec (λ c κs. search needs) (λ c. search needs) cast-result (λ c. search needs) (λ c. search needs) (λ c. search needs) returns (λ c κs. search needs) (λ c κs. search needs) (λ c κs. search needs) returns-2)
+mubanlig-get-bit-spec =
+    tie.close
+    (tie.spec
+    (λ c κs. search needs)
+    (λ c. search needs)
+    cast-result
+    (λ c. search needs)
+    (λ c. search needs)
+    (λ c. search needs)
+    returns
+    (λ c κs. search needs)
+    returns-2)

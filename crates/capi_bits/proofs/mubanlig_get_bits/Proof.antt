@@ -9,7 +9,6 @@ use lib.Signed.{nonNeg}
 use mir.Facts.{toZ-ofZ}
 use Rattle.codes.proofs.Args.{in-range}
 use Rattle.getbits.specs.Bits.{getBits}
-use Rattle.getbits.specs.declared.Number.{Number}
 use Rattle.lent.specs.Lent.{placeOf}
 use Rattle.capi_bits.specs.Numbers.{lentNumber}
 use Rattle.capi_bits.proofs.Ahead.{bits-on}
@@ -37,14 +36,13 @@ returns c =
     let a = start .args in
     let same = toZ-ofZ (start .fits .n) in
     bits-on (a .s .now) (a .position .now) (a .error .now) (natAbs (a .n)) (omega (arith, known t .1)) (omega (arith, known t .1))
-    (rw (same, c .before .place-of .ensures) at (c .look .ensures)) (rw same at (c .before .before .wrapping-add-usize .ensures))
+    (rw (same, c .before .place-of .ensures) at (c .look-ahead .ensures)) (rw same at (c .before .before .wrapping-add-usize .ensures))
     ∙ ap (λ (z : ℤ). lentNumber (getBits (a .s .now) (placeOf (a .position .now) (a .error .now)) z) (a .error .now)) (known t .2)
 
 returns-2 : tie.Need-returns-2
 returns-2 c =
-    let k = c .before .before .before in
-    let start = k .before .before .before .before .before .before in
-    c .hand-back .ensures ∙ ap (λ (x : Number). lentNumber x (start .args .error .now)) (rw (toZ-ofZ (start .fits .n), k .before .place-of2 .ensures) at (k .get-bits .ensures))
+    let start = c .before .before .before .before .before .before in
+    rw (toZ-ofZ (start .fits .n)) at (c .read-bits .ensures)
 
 pub mubanlig-get-bits-spec : {M : Type 1} → statement M
 mubanlig-get-bits-spec =
@@ -57,7 +55,5 @@ mubanlig-get-bits-spec =
     (λ c κs. search needs)
     (λ c κs. search needs)
     returns
-    (λ c κs. search needs)
-    (λ c κs. search needs)
     (λ c κs. search needs)
     returns-2)

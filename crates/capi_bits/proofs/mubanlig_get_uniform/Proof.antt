@@ -5,10 +5,12 @@ use native.Mathlib.Omega.{arith}
 use borrow.Author.Needs.{needs}
 use borrow.Author.Tests.{leb-true, ltb-true}
 use lib.Dec.{leb, ltb}
+use Rattle.codes.proofs.Callers.{length-is}
 use Rattle.codes.specs.Codes.{bitLength}
 use Rattle.getbits.proofs.Chain.{both}
 use Rattle.getbits.specs.Bits.{lookAt}
 use Rattle.getbits.specs.declared.Number.{Number}
+use Rattle.getbits.specs.declared.Place.{Place}
 use Rattle.lent.specs.Lent.{placeOf}
 use Rattle.capi_bits.specs.Numbers.{lentNumber}
 use Rattle.capi_bits.proofs.Ahead.{uniform-short, uniform-long}
@@ -21,37 +23,45 @@ known c =
     let t = both (leb 2 max) (ltb max (2 ^ 31)) (c .if1 .taken) in
     (leb-true 2 max (t .0), ltb-true max (2 ^ 31) (t .1))
 
-bit-length-requires : tie.Need-bit-length-requires
-bit-length-requires c κs = (omega (arith, known (c .before) .0), known (c .before) .1)
-
-short-ones-requires : tie.Need-short-ones-requires
-short-ones-requires c κs = (c .bit-length .ensures .0, omega (arith, known (c .before .before) .0), known (c .before .before) .1)
-
 -- the bits are there and have been looked at
-module _ (c : tie.After-look) where
-  abbrev start : tie.Start
-  start = c .before .before .before .before .before .before .before .before
+module _ (c : tie.After-look-ahead) where
+  abbrev forms : tie.After-uniform-forms
+  forms = c .before .before
 
-  looked : c .look .result ≡ lookAt (start .args .s .now) (placeOf (start .args .position .now) 0) (bitLength (start .args .max))
-  looked = rw (c .before .before .before .bit-length .ensures .0, c .before .place-of .ensures) at (c .look .ensures)
+  abbrev start : tie.Start
+  start = forms .before .before .before .before .before
+
+  abbrev max : ℕ
+  max = start .args .max
+
+  bounds : (2 ≤ max) × (max < 2 ^ 31)
+  bounds = known (forms .before .before)
+
+  bits : forms .uniform-forms .result .bits ≡ bitLength max
+  bits = forms .uniform-forms .ensures .0
+
+  looked : c .look-ahead .result ≡ lookAt (start .args .s .now) (placeOf (start .args .position .now) 0) (bitLength max)
+  looked =
+      c .look-ahead .ensures
+      ∙ ap (λ (x : Place). lookAt (start .args .s .now) x (forms .uniform-forms .result .bits)) (c .before .place-of .ensures)
+      ∙ ap (lookAt (start .args .s .now) (placeOf (start .args .position .now) 0)) bits
+
+sub-wrapping-add-usize : tie.Need-sub-wrapping-add-usize
+sub-wrapping-add-usize c = omega (arith, bits (c .before), length-is (max (c .before)) (omega (arith, bounds (c .before) .0)) (bounds (c .before) .1) .0)
 
 returns : tie.Need-returns
 returns c =
     let k = c .before .before in
-    let d = k .before .before in
     let a = start k .args in
-    let l = d .before .bit-length .ensures .0 in
-    uniform-short (a .s .now) (a .position .now) (a .error .now) (a .max) (known (d .before .before .before) .0) (known (d .before .before .before) .1) (omega arith)
-    (k .look .result) (looked k) (rw (d .short-ones .ensures, l) at (c .before .if3 .taken)) (rw l at (c .wrapping-add-usize .ensures))
+    uniform-short (a .s .now) (a .position .now) (a .error .now) (a .max) (bounds k .0) (bounds k .1) (omega arith)
+    (k .look-ahead .result) (looked k) (rw (forms k .uniform-forms .ensures .1) at (c .before .if3 .taken)) (rw (bits k) at (c .wrapping-add-usize .ensures))
 
 returns-2 : tie.Need-returns-2
 returns-2 c =
     let k = c .before .before in
-    let d = k .before .before in
     let a = start k .args in
-    let l = d .before .bit-length .ensures .0 in
-    rw (d .short-ones .ensures, l) (uniform-long (a .s .now) (a .position .now) (a .error .now) (a .max) (known (d .before .before .before) .0) (known (d .before .before .before) .1) (omega arith)
-    (k .look .result) (looked k) (omega (arith, d .short-ones .ensures, ap (λ (x : ℕ). 2 ^ x) l)) (rw l at (c .wrapping-add-usize2 .ensures)))
+    rw (forms k .uniform-forms .ensures .1) (uniform-long (a .s .now) (a .position .now) (a .error .now) (a .max) (bounds k .0) (bounds k .1) (omega arith)
+    (k .look-ahead .result) (looked k) (omega (arith, forms k .uniform-forms .ensures .1)) (rw (bits k) at (c .wrapping-add-usize2 .ensures)))
 
 returns-3 : tie.Need-returns-3
 returns-3 c =
@@ -64,19 +74,18 @@ mubanlig-get-uniform-spec =
     tie.close
     (tie.spec
     (λ c. search needs)
-    bit-length-requires
-    short-ones-requires
     (λ c κs. search needs)
     (λ c κs. search needs)
-    (λ c. search needs)
+    (λ c κs. search needs)
+    sub-wrapping-add-usize
     (λ c. search needs)
     (λ c κs. search needs)
     returns
     (λ c. search needs)
-    (λ c κs. search needs)
+    (λ c. search needs)
     (λ c. search needs)
     returns-2
-    (λ c κs. search needs)
+    (λ c. search needs)
     (λ c κs. search needs)
     (λ c κs. search needs)
     returns-3)

@@ -1,8 +1,10 @@
 -- `seq_hdr::read_head` meets its contract. Assumes nothing.
-use mathlib.Core.Path.{_≡_, sym, _∙_}
+use mathlib.Core.Path.{_≡_, refl, sym, _∙_}
 use borrow.Author.Needs.{needs}
+use Rattle.answers.specs.declared.Answer.the-variants.{InvalidSequenceHeader}
 use Rattle.getbits.proofs.Chain.{through, taken, left}
 use Rattle.seq_hdr.specs.Header.{readHead}
+use Rattle.seq_hdr.proofs.Numbers.{head-not-put}
 use Rattle.seq_hdr.proofs.read_head.Statement.{statement}
 use Rattle.seq_hdr.proofs.read_head.Tie as tie
 
@@ -20,12 +22,24 @@ answers =
     λ c.
     let k = c .before .before in
     to-layout (k .before) ∙ left _ _ _ (sym (k .before .above .ensures) ∙ k .if2 .left) ∙ through _ _ (c .before .read-format .ensures) in (
-      λ c. sym (to-profile (c .before .before) ∙ taken _ _ _ (sym (c .before .before .unknown-profile .ensures) ∙ c .before .if1 .taken) ∙ sym (c .refuse-header .ensures)),
+      λ c. (
+        sym (to-profile (c .before .before) ∙ taken _ _ _ (sym (c .before .before .unknown-profile .ensures) ∙ c .before .if1 .taken) ∙ sym (c .refuse-header .ensures)),
+        head-not-put InvalidSequenceHeader _ refl (c .refuse-header .ensures) (λ _. refl),
+      ),
       (
-        λ c. sym (to-layout (c .before .before) ∙ taken _ _ _ (sym (c .before .before .above .ensures) ∙ c .before .if2 .taken) ∙ sym (c .refuse-header2 .ensures)),
+        λ c. (
+          sym (to-layout (c .before .before) ∙ taken _ _ _ (sym (c .before .before .above .ensures) ∙ c .before .if2 .taken) ∙ sym (c .refuse-header2 .ensures)),
+          head-not-put InvalidSequenceHeader _ refl (c .refuse-header2 .ensures) (λ _. refl),
+        ),
         (
-          λ c. sym (to-depth (c .before .before) ∙ taken _ _ _ (sym (c .before .before .above2 .ensures) ∙ c .before .if3 .taken) ∙ sym (c .refuse-header3 .ensures)),
-          λ c. sym (to-depth (c .before .before) ∙ left _ _ _ (sym (c .before .before .above2 .ensures) ∙ c .before .if3 .left) ∙ sym (c .read-groups .ensures)),
+          λ c. (
+            sym (to-depth (c .before .before) ∙ taken _ _ _ (sym (c .before .before .above2 .ensures) ∙ c .before .if3 .taken) ∙ sym (c .refuse-header3 .ensures)),
+            head-not-put InvalidSequenceHeader _ refl (c .refuse-header3 .ensures) (λ _. refl),
+          ),
+          λ c.
+              let g = c .before in
+              let k = g .before .before in
+              (sym (to-depth (k .before) ∙ left _ _ _ (sym (k .before .above2 .ensures) ∙ k .if3 .left) ∙ sym (g .read-groups .ensures .0)), g .read-groups .ensures .1),
         ),
       ),
     )
@@ -47,4 +61,5 @@ read-head-spec =
     (λ c κs. search needs)
     (answers .1 .1 .0)
     (λ c κs. search needs)
+    (λ c. search needs)
     (answers .1 .1 .1))

@@ -1,50 +1,84 @@
 -- `superblocks::tile_log2` meets its contract. Assumes nothing.
-use mathlib.Core.Path.{_≡_, _∙_}
-use Prim.Native.Nat.{_+_, _-_, _*_, _^_, _≤_}
-use native.Mathlib.Nat.{add-zero}
+use mathlib.Core.Path.{_≡_, _∙_, ap}
+use Prim.Native.Nat.{ℕ, zero, suc, _+_, _-_, _*_, _%_, _^_, _≤_, _<_}
+use native.Mathlib.Nat.{mod-eq-of-lt, lt-of-lt-of-le, mul-lt-mul-of-pos-right}
 use native.Mathlib.Omega.{arith}
 use borrow.Author.Needs.{needs}
-use Rattle.tile_layout.proofs.Logs.{double-turn, double-none}
-use Rattle.tile_layout.specs.Limits.{doublings, tileLog2}
+use lib.Count.{leadingZeros, leading-length}
+use lib.Pow.{pow-add, pow-mono, pow-pos}
+use Rattle.tile_layout.proofs.Logs.{log-more, log-is}
 use Rattle.superblocks.proofs.tile_log2.Statement.{statement}
 use Rattle.superblocks.proofs.tile_log2.Tie as tie
 
-abbrev Inv-loop : tie.InvT-loop
-Inv-loop sz tgt reach₀ k₀ reach k = (k ≤ 20) × (tgt ≤ reach * 2 ^ (20 - k)) × (doublings (20 - k) reach tgt + k ≡ tileLog2 sz tgt)
+module _ (c : tie.After-usub) where
+  abbrev sz : ℕ
+  sz = c .before .args .sz
 
-abbrev μ-loop : tie.MeasureT-loop
-μ-loop sz tgt reach₀ k₀ reach k = 20 - k
+  abbrev tgt : ℕ
+  tgt = c .before .args .tgt
 
-turn : (c : tie.In-loop Inv-loop μ-loop) → let l = c .before .loop in
-    (l .k + 1 ≤ 20) × (c .before .before .args .tgt ≤ l .reach * 2 * 2 ^ (20 - (l .k + 1)))
-    × (doublings (20 - (l .k + 1)) (l .reach * 2) (c .before .before .args .tgt) + (l .k + 1) ≡ doublings (20 - l .k) (l .reach) (c .before .before .args .tgt) + l .k)
-turn c =
-    let l = c .before .loop in
-    double-turn 20 (l .k) (l .reach) (c .before .before .args .tgt) (c .loop-test .taken) (l .inv .0) (l .inv .1)
+  -- how many bits both have
+  abbrev Bits : ℕ → Type 0
+  Bits n = (m : ℕ) × (leadingZeros 32 n + m ≡ 32) × (n < 2 ^ m) × (2 ^ m ≤ 2 * n + 1)
 
-loop-holds : tie.Need-loop-holds Inv-loop μ-loop
-loop-holds c = (search needs, c .pre .0, add-zero _)
+  a : Bits sz
+  a = leading-length 32 sz (c .before .fits .sz .fits)
 
-mul-reach : tie.Need-mul-reach Inv-loop μ-loop
-mul-reach c = omega arith
+  b : Bits tgt
+  b = leading-length 32 tgt (c .before .fits .tgt .fits)
 
-add-k : tie.Need-add-k Inv-loop μ-loop
-add-k c = omega (arith, turn c)
+  by : c .usub .result ≡ b .0 - a .0
+  by = omega (arith, c .usub .ensures, a .1, b .1)
 
-loop-less : tie.Need-loop-less Inv-loop μ-loop
-loop-less c = omega (arith, turn c)
+  some : 1 ≤ a .0
+  some = go (a .0) (a .2)
+    where
+      go : (m : ℕ) → sz < 2 ^ m → 1 ≤ m
+      go zero h = absurd (omega (arith, h, c .before .pre .0))
+      go (suc m) h = omega arith
 
-loop-again : tie.Need-loop-again Inv-loop μ-loop
-loop-again c =
-    let t = turn c in
-    (t .0, t .1, t .2 ∙ c .before .loop .inv .2)
+  -- sz as it is shifted
+  shifted : sz * 2 ^ c .usub .result % 4294967296 ≡ sz * 2 ^ (b .0 - a .0)
+  shifted =
+      let all : a .0 + (b .0 - a .0) ≤ 32 = omega (arith, a .1, b .1) in
+      let fits : 2 ^ (a .0 + (b .0 - a .0)) ≤ 2 ^ 32 = pow-mono all in
+      ap (λ (k : ℕ). sz * 2 ^ k % 4294967296) by
+      ∙ mod-eq-of-lt (lt-of-lt-of-le (mul-lt-mul-of-pos-right (a .2) (pow-pos (b .0 - a .0))) (rw (pow-add 2 (a .0) (b .0 - a .0)) at fits))
 
-returns : tie.Need-returns Inv-loop μ-loop
+shl-if1 : tie.Need-shl-if1
+shl-if1 c = omega (arith, by c, some c, b c .1)
+
+add-result : tie.Need-add-result
+add-result c = omega (arith, by (c .before), b (c .before) .1)
+
+cast-result : tie.Need-cast-result
+cast-result c = omega (arith, by (c .before), b (c .before) .1)
+
+returns : tie.Need-returns
 returns c =
-    let l = c .before .loop in
-    let a = c .before .before .args in
-    omega (arith, double-none (20 - l .k) (l .reach) (a .tgt) (c .loop-test .left), l .inv .2)
+    let u = c .before in
+    let l = a u in
+    let m = b u in
+    omega (arith, by u, log-more (l .0) (m .0) (sz u) (tgt u) (l .2) (l .3) (m .2) (m .3) (u .before .pre .0) (u .before .pre .1) (rw (shifted u) at (c .if1 .taken)))
+
+cast-result-2 : tie.Need-cast-result-2
+cast-result-2 c = omega (arith, by (c .before), b (c .before) .1)
+
+returns-2 : tie.Need-returns-2
+returns-2 c =
+    let u = c .before in
+    let l = a u in
+    let m = b u in
+    omega (arith, by u, log-is (l .0) (m .0) (sz u) (tgt u) (l .2) (l .3) (m .2) (m .3) (u .before .pre .0) (u .before .pre .1) (rw (shifted u) at (c .if1 .left)))
 
 pub tile-log2-spec : {M : Type 1} → statement M
 tile-log2-spec =
-    tie.close (tie.spec Inv-loop μ-loop loop-holds mul-reach add-k loop-less loop-again returns)
+    tie.close
+    (tie.spec
+    (λ c κs. search needs)
+    shl-if1
+    add-result
+    cast-result
+    returns
+    cast-result-2
+    returns-2)

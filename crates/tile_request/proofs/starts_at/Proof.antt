@@ -1,9 +1,10 @@
 -- `tile_request::starts_at` meets its contract. Assumes nothing.
-use mathlib.Core.List.{List, append-nil}
-use mathlib.Core.Path.{_≡_}
+use mathlib.Core.List.{List, [], append-nil}
+use mathlib.Core.Path.{_≡_, sym, _∙_, ap}
 use Prim.Native.Nat.{ℕ, _+_, _-_, _*_, _≤_}
 use native.Mathlib.Omega.{arith}
 use borrow.Author.Needs.{needs}
+use lib.ListN.{set}
 use Rattle.program.specs.Input.{twoAt}
 use Rattle.tile_layout.specs.Layout.{tabulate, padded}
 use Rattle.tile_layout.proofs.Laws.{length-tabulate, stored}
@@ -29,7 +30,14 @@ loop-again : tie.Need-loop-again Inv-loop μ-loop
 loop-again c =
     let l = c .before .before in
     let a = l .before .before .args in
-    (search needs, rw (l .loop .inv .1) (stored (start (a .s .now) (a .i)) (l .loop .k) (c .two-at .result) (c .two-at .ensures .0) (search needs)))
+    let f = start (a .s .now) (a .i) in
+    let k = l .loop .k in
+    let v = c .two-at .result in (
+      search needs,
+      ap (λ (t : List ℕ). set t k v) (l .loop .inv .1 ∙ sym (append-nil (padded (tabulate f 0 k))))
+          ∙ stored f [] k v (c .two-at .ensures .0) (search needs)
+          ∙ append-nil (padded (tabulate f 0 (k + 1))),
+    )
 
 returns : tie.Need-returns Inv-loop μ-loop
 unfolding startsAt

@@ -1,40 +1,28 @@
 -- `film_grain::coeffs::bits_less` meets its contract. Assumes nothing.
-use mathlib.Core.Path.{sym}
-use Prim.Native.Nat.{_^_, _<_}
+use mathlib.Core.Path.{_≡_, sym}
 use native.Mathlib.Omega.{arith}
 use borrow.Author.Needs.{needs}
-use lib.IntN.{pos, _-ℤ_}
 use mir.Syntax.{w16}
-use mir.Val.{SFits}
-use mir.ValLaws.{toZ-pos, toZ-ofZ}
+use mir.Val.{toZ, ofZ}
 use Rattle.getbits.proofs.Chain.{through}
 use Rattle.film_grain.specs.Coeffs.{bitsLess}
-use Rattle.film_grain.proofs.Numbers.{at-most, difference}
+use Rattle.film_grain.proofs.Numbers.{at-most}
 use Rattle.film_grain.proofs.coeffs.bits_less.Statement.{statement}
 use Rattle.film_grain.proofs.coeffs.bits_less.Tie as tie
 
-small : (c : tie.After-read-bits) → c .read-bits .result .value < 2 ^ 9
-small c = at-most _ _ (c .before .before .args .n) 9 (c .before .before .pre .0) (c .read-bits .ensures)
+minus-requires : tie.Need-minus-requires
+minus-requires c κs =
+    let r = c .before in
+    let s = r .before .before in
+    (omega (arith, at-most _ _ (s .args .n) 9 (s .pre .0) (r .read-bits .ensures)), s .pre .1)
 
-fits : (c : tie.After-read-bits) → SFits w16 (pos (c .read-bits .result .value) -ℤ pos (c .before .before .args .less))
-fits c =
-    let d = difference (c .read-bits .result .value) (c .before .before .args .less) 512 (omega (arith, small c)) (omega (arith, c .before .before .pre .1)) (omega arith) in
-    record { sfits = omega (arith, d) }
-
-cast-t7 : tie.Need-cast-t7
-cast-t7 c = record { sfits = omega (arith, small (c .before .before)) }
-
-sub-t9 : tie.Need-sub-t9
-sub-t9 c =
-    let r = c .before .before in
-    rw (toZ-pos w16 (r .read-bits .result .value) (omega (arith, small r)), toZ-pos w16 (r .before .before .args .less) (omega (arith, r .before .before .pre .1))) (fits r)
+-- the number, read back from its bits
+back : (c : tie.After-minus) → toZ w16 (ofZ w16 (c .minus .result)) ≡ c .minus .result
+back c = search needs
 
 returns : tie.Need-returns
 unfolding bitsLess
-returns c =
-    let r = c .before .before in
-    rw (toZ-pos w16 (r .read-bits .result .value) (omega (arith, small r)), toZ-pos w16 (r .before .before .args .less) (omega (arith, r .before .before .pre .1)), toZ-ofZ w16 _ (fits r))
-    (sym (through _ _ (r .read-bits .ensures)))
+returns c = rw (back c, c .minus .ensures) (sym (through _ _ (c .before .before .read-bits .ensures)))
 
 pub bits-less-spec : {M : Type 1} → statement M
-bits-less-spec = tie.close (tie.spec (λ c κs. search needs) cast-t7 (λ c. search needs) sub-t9 returns)
+bits-less-spec = tie.close (tie.spec (λ c κs. search needs) minus-requires returns)

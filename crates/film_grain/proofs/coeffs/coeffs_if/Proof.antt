@@ -1,5 +1,5 @@
 -- `film_grain::coeffs::coeffs_if` meets its contract. Assumes nothing.
-use mathlib.Core.Path.{sym, _∙_}
+use mathlib.Core.Path.{refl, sym, _∙_}
 use borrow.Author.Needs.{needs}
 use Rattle.getbits.proofs.Chain.{through}
 use Rattle.film_grain.specs.Coeffs.{coeffsIf}
@@ -9,12 +9,13 @@ use Rattle.film_grain.proofs.coeffs.coeffs_if.Tie as tie
 returns : tie.Need-returns
 unfolding coeffsIf
 returns c =
-    let b = c .before .before in
-    rw (b .before .if1 .taken) (sym (through _ _ (b .get-small .ensures .0) ∙ sym (c .read-coeffs .ensures)))
+    let r = c .before in
+    let b = r .before .before .before in
+    rw (b .before .if1 .taken) (sym (through _ _ (b .get-small .ensures .0) ∙ sym (r .read-coeffs .ensures)))
 
 returns-2 : tie.Need-returns-2
 unfolding coeffsIf
-returns-2 c = rw (c .before .if1 .left) (c .no-coeffs .ensures)
+returns-2 c = rw (c .if1 .left, c .before .before .pre .1) refl
 
 pub coeffs-if-spec : {M : Type 1} → statement M
 coeffs-if-spec =
@@ -24,6 +25,6 @@ coeffs-if-spec =
     (λ c. search needs)
     (λ c. search needs)
     (λ c κs. search needs)
+    (λ c. search needs)
     returns
-    (λ c κs. search needs)
     returns-2)

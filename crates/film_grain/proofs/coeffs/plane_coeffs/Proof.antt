@@ -10,12 +10,12 @@ use Rattle.film_grain.proofs.coeffs.plane_coeffs.Tie as tie
 returns : tie.Need-returns
 unfolding planeCoeffs
 returns c =
-    let v = c .before .before .before .before in
-    let has-v = v .before in
-    let u = has-v .before in
-    let has-u = u .before in
-    let y = has-u .before in
-    let b = y .before in
+    let v = c .before in
+    let has-v = v .before .before in
+    let u = v .before .before .before .before in
+    let has-u = u .before .before in
+    let y = u .before .before .before .before in
+    let b = y .before .before in
     let n = b .before in
     let luma = n .before in
     rw (← has-u .has-points2 .ensures, ← has-v .has-points3 .ensures)
@@ -43,4 +43,7 @@ plane-coeffs-spec =
     (λ c. search needs)
     (λ c κs. search needs)
     (λ c κs. search needs)
+    (λ c. search needs)
+    (λ c. search needs)
+    (λ c. search needs)
     returns)

@@ -2,29 +2,18 @@
 use mathlib.Core.Path.{_≡_, refl}
 use Prim.Native.Nat.{min}
 use native.Mathlib.Omega.{arith}
-use mir.Syntax.{w32}
-use mir.Val.{toZ, ofZ}
-use Rattle.getbits.proofs.Widths.{back}
-use Rattle.frame_hdr.proofs.Usable.{known}
+use mir.Facts.{toZ-ofZ}
 use borrow.Author.Needs.{needs}
 use Rattle.frame_hdr.proofs.reuse.same_counts.Statement.{statement}
 use Rattle.frame_hdr.proofs.reuse.same_counts.Tie as tie
 
--- the sequence's maximum sizes as the calls have them
-across : (c : tie.After-not-below-0) → toZ w32 (ofZ w32 (c .before .before .args .seq .«max_width»)) ≡ c .before .before .args .seq .«max_width»
-across c = back (c .before .before .args .seq .«max_width») (c .before .struct-told .given .1 .0 .1)
-
-down : (c : tie.After-not-below-02) → toZ w32 (ofZ w32 (c .before .before .before .before .before .args .seq .«max_height»)) ≡ c .before .before .before .before .before .args .seq .«max_height»
-down c = back (c .before .before .before .before .before .args .seq .«max_height») (c .before .struct-told2 .given .1 .1 .0 .1)
-
-code : (s : tie.Start) → min (s .args .pair .«seq_code») 2 ≡ s .args .seq .sb128
-code s = omega (arith, s .pre .1, known (s .args .seq) (s .pre .0) .code)
-
 returns : tie.Need-returns
 returns c =
     let y = c .before .before .before in
-    let x = y .before .before .before in
-    rw (c .same-number2 .ensures, c .before .same-number .ensures, c .before .before .seq-count2 .ensures, y .before .before .seq-count .ensures, y .not-below-02 .ensures, x .not-below-0 .ensures, across x, down y, code (x .before .before)) refl
+    let x = y .before .before in
+    let s = x .before in
+    let code : min (s .args .pair .«seq_code») 2 ≡ s .args .pair .«seq_code» = omega (arith, s .pre) in
+    rw (c .same-number2 .ensures, c .before .same-number .ensures, c .before .before .seq-count2 .ensures, y .before .seq-count .ensures, y .not-below-02 .ensures, x .not-below-0 .ensures, toZ-ofZ (s .fits .max-width), toZ-ofZ (s .fits .max-height), code) refl
 
 pub same-counts-spec : {M : Type 1} → statement M
 same-counts-spec =

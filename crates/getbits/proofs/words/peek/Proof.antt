@@ -9,10 +9,10 @@ use Rattle.getbits.proofs.words.peek.Tie as tie
 
 returns-2 : tie.Need-returns-2
 returns-2 c =
-    let k = c .before .before .before .before in
+    let k = c .before .before .before in
     let a = k .before .args in
     c .field .ensures
-    ∙ ap (λ (w : ℕ). w / 2 ^ (64 - (a .used + a .n)) % 2 ^ a .n) (omega arith)
+    ∙ ap (λ (w : ℕ). w / 2 ^ (64 - (a .used + a .n)) % 2 ^ a .n) (c .before .eight-bytes-near-end .ensures)
     ∙ bytes-field (a .s .now) (a .byte) (a .used) (a .n) (λ i. omega (arith, k .shared-slice-known .given i)) (omega arith) (omega arith)
 
 pub peek-spec : {M : Type 1} → statement M
@@ -22,10 +22,6 @@ peek-spec =
     (λ c. search needs)
     (λ c κs. search needs)
     (λ c κs. search needs)
-    (λ c. search needs)
-    (λ c. search needs)
-    (λ c κs. search needs)
-    (λ c. search needs)
     (λ c κs. search needs)
     (λ c. search needs)
     returns-2)

@@ -9,10 +9,10 @@ use Rattle.getbits.proofs.words.within.Tie as tie
 
 returns : tie.Need-returns
 returns c =
-    let k = c .before .before .before in
+    let k = c .before .before in
     let a = k .before .args in
     c .field .ensures
-    ∙ ap (λ (w : ℕ). w / 2 ^ (64 - (a .used + a .n)) % 2 ^ a .n) (omega arith)
+    ∙ ap (λ (w : ℕ). w / 2 ^ (64 - (a .used + a .n)) % 2 ^ a .n) (c .before .eight-bytes-within .ensures)
     ∙ bytes-field (a .s .now) (a .byte) (a .used) (a .n) (λ i. omega (arith, k .shared-slice-known .given i)) (omega arith) (omega arith)
 
 pub within-spec : {M : Type 1} → statement M
@@ -20,9 +20,5 @@ within-spec =
     tie.close
     (tie.spec
     (λ c κs. search needs)
-    (λ c. search needs)
-    (λ c. search needs)
-    (λ c κs. search needs)
-    (λ c. search needs)
     (λ c κs. search needs)
     returns)

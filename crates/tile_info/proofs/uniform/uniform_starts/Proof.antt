@@ -28,11 +28,11 @@ few s =
     few-tiles (F s) (T s) (s .args .log2) (T s) (x .some-full) (x .full-le) (x .le-full) (omega (arith, x .some-full, x .full-le)) (le-mul-of-pos-right (T s) (pow-pos (s .args .log2))) (s .pre .1 .1 .4)
 
 -- the split is the definition's
-split : (c : tie.After-even-split) → let s = c .before .before .before in let r = c .even-split .result in
+split : (c : tie.After-even-split) → let s = c .before .before .before .before in let r = c .even-split .result in
     (r .tile .0 ≡ base (F s) (s .args .log2)) × (r .tiles .0 ≡ count (F s) (T s) (s .args .log2)) × (r .extra .0 ≡ larger (F s) (T s) (s .args .log2))
 unfolding fullCount
 split c =
-    let s = c .before .before .before in
+    let s = c .before .before .before .before in
     let code = seq-code (s .pre .0) (s .pre .1 .0) in
     let l : s .args .log2 % 32 ≡ s .args .log2 = omega (arith, s .pre .1 .1 .4) in
     let f = rw code at (c .before .before .full-count .ensures) in
@@ -42,7 +42,7 @@ split c =
 fill-requires : tie.Need-fill-requires
 fill-requires c κs =
     let k = c .before in
-    let s = k .before .before .before in
+    let s = k .before .before .before .before in
     let al = al s in
     let e = split k in (
       s .pre .1 .1 .0,
@@ -54,10 +54,11 @@ fill-requires c κs =
 returns : tie.Need-returns
 unfolding startAt
 returns c =
-    let k = c .before .before .before in
-    let s = k .before .before .before in
+    let f = c .before .before .before in
+    let k = f .before .before in
+    let s = k .before .before .before .before in
     let e = split k in
-    (omega (arith, c .number .ensures, e .1, few s), c .before .fill .ensures ∙ simp (e .0, e .1, e .2, s .pre .1 .1 .3, multiplied (s .pre .0) (s .pre .1 .0)))
+    (omega (arith, c .number .ensures, e .1, few s), f .fill .ensures ∙ simp (e .0, e .1, e .2, s .pre .1 .1 .3, multiplied (s .pre .0) (s .pre .1 .0)))
 
 pub uniform-starts-spec : {M : Type 1} → statement M
 uniform-starts-spec =
@@ -68,4 +69,5 @@ uniform-starts-spec =
     (λ c κs. search needs)
     fill-requires
     (λ c κs. search needs)
+    (λ c. search needs)
     returns)
