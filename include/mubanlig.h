@@ -2,9 +2,10 @@
  * Mubanlig: AV2 sequence headers, tile layouts and film grain parameters, read by a proved library, which writes layouts too. For C and
  * C++ on x86-64 Linux.
  *
- * Link libcapi_bits.a (the readings), libcapi.a (the records), libcapi_within.a (layouts within a limit), libcapi_grain.a (film grain
- * parameters) and libcapi_write.a (layouts written as bits), which `rt staticlib` with capi_bits, capi, capi_within, capi_grain and
- * capi_write proves and writes. docs/INTERFACE.md says what they promise.
+ * Link libcapi_bits.a (the readings), libcapi.a (headers, segments, and layouts written as bits), libcapi_tiles.a (layouts and their
+ * rectangles), libcapi_frame.a (frames' layouts), libcapi_within.a (layouts within a limit) and libcapi_grain.a (film grain parameters),
+ * which `rt staticlib` with capi_bits, capi, capi_tiles, capi_frame, capi_within and capi_grain proves and writes. docs/INTERFACE.md says
+ * what they promise.
  *
  * What holds of every call:
  *
@@ -244,12 +245,17 @@ enum mubanlig_fgd {
     MUBANLIG_FGD_BLOCK_SIZE = 185
 };
 
-/* The five answer MUBANLIG_INTERFACE. */
+/*
+ * All answer MUBANLIG_INTERFACE, one in each library. mubanlig_write_interface_3 is in libcapi.a too: the writer was in a library of its
+ * own, libcapi_write.a, and a program that asks for the number of that one still links.
+ */
 uint32_t mubanlig_bits_interface_3(void);
 uint32_t mubanlig_interface_3(void);
+uint32_t mubanlig_write_interface_3(void);
+uint32_t mubanlig_tiles_interface_3(void);
+uint32_t mubanlig_frame_interface_3(void);
 uint32_t mubanlig_within_interface_3(void);
 uint32_t mubanlig_grain_interface_3(void);
-uint32_t mubanlig_write_interface_3(void);
 
 /*
  * Readings, in libcapi_bits.a. Each answers its value. Data that runs out, or an argument outside the domain, sets the error; most then
@@ -284,8 +290,9 @@ size_t mubanlig_byte_pos(const uint8_t *s, size_t s_len, size_t position);
 size_t mubanlig_remaining_bytes(const uint8_t *s, size_t s_len, size_t position);
 
 /*
- * Records, in libcapi.a. Each answers a number of mubanlig_answer. A refused layout or frame leaves info, the starts and sb128 as they
- * were; a refused header (1, 2, 3) writes the zero record; refused rectangles leave out as it was.
+ * Records: segments and headers in libcapi.a, layouts and their rectangles in libcapi_tiles.a, frames' layouts in libcapi_frame.a. Each
+ * answers a number of mubanlig_answer. A refused layout or frame leaves info, the starts and sb128 as they were; a refused header (1, 2,
+ * 3) writes the zero record; refused rectangles leave out as it was.
  * They don't look at the error: short data may be accepted with the error set. Only a header is refused then.
  */
 
@@ -362,7 +369,7 @@ uint32_t mubanlig_parse_film_grain_data(const uint8_t *s, size_t s_len, size_t *
     uint8_t layout, int16_t *fgd, size_t fgd_len);
 
 /*
- * A layout written as bits, in libcapi_write.a: those that mubanlig_parse_tile_info, with the same arguments and over the zero record,
+ * A layout written as bits, in libcapi.a: those that mubanlig_parse_tile_info, with the same arguments and over the zero record,
  * reads as this record without setting the error. They stand in out most significant first, padded with zero bits to a byte; bytes behind
  * the last one stay. `bits` becomes how many bits they are. Refused, out stays as it was and `bits` becomes 0. What was read so is written
  * as the bits that were used.

@@ -1,4 +1,4 @@
--- What the exported calls leave that are not about a layout alone.
+-- What the exported calls leave.
 use Prim.Native.Nat.{ℕ}
 use mathlib.Core.Bool.{_&&_}
 use mathlib.Core.List.{List}
@@ -10,12 +10,13 @@ use Rattle.answers.specs.declared.Answer.the-variants.{Accepted, ShortBuffer}
 use Rattle.getbits.specs.Chain.{pick, then}
 use Rattle.lent.specs.Lent.{isSet, placeOf}
 use Rattle.seg_info.specs.Seg.{parseSegInfo}
-use Rattle.rectangles.specs.Rectangles.{tileRectangles}
 use Rattle.seq_hdr.specs.Header.{parseSeqHdr}
 use Rattle.flat_hdr.specs.Header.{flatSeqHdr}
-use Rattle.flat.specs.Layout.{Buffers, overFront, hasRoom, putLayout, layoutIn}
+use Rattle.flat.specs.Layout.{Buffers, overFront, hasRoom, layoutIn, putLayout}
 use Rattle.lent.specs.Calls.{answered, tooShort}
 use Rattle.flat.specs.Segments.{flatMasks, segInfoOf}
+use Rattle.tile_layout.specs.declared.TileArgs.{TileArgs}
+use Rattle.layout_writing.specs.Write.{writeTileInfo}
 
 -- parse_seg_info over 16 lent deltas and three lent masks
 unfoldable pub lentSegInfo : List ℕ → ℕ → ℕ → List ℤ → List ℕ → ℕ → List ℕ × List ℤ × List ℕ
@@ -33,10 +34,9 @@ lentHeader s position error strict hdr b =
     (answered (r .answer) (r .next) error, overFront 146 (flatSeqHdr (r .hdr)) hdr, putLayout (r .hdr .tiling .t) b))
     (tooShort position error, hdr, b)
 
--- tile_rectangles over the buffers of a layout, in a frame of w by h samples
-unfoldable pub lentRectangles : Buffers → ℕ → ℕ → ℕ → List ℕ → ℕ × List ℕ
-lentRectangles b code w h out =
+-- write_tile_info over the buffers of a layout: the answer's number, how many bits, and the buffer that they are written into
+unfoldable pub lentWrite : Buffers → TileArgs → List ℕ → ℕ × ℕ × List ℕ
+lentWrite b a out =
     pick (hasRoom b)
-    (then (tileRectangles (layoutIn b) code w h out) λ r.
-    (numberOf (r .0), r .1))
-    (numberOf ShortBuffer, out)
+    (then (writeTileInfo a (layoutIn b) out) λ r. (numberOf (r .0 .answer), r .0 .bits, r .1))
+    (numberOf ShortBuffer, 0, out)

@@ -11,7 +11,7 @@ use Rattle.getbits.specs.declared.Place.{Place}
 use Rattle.lent.specs.Lent.{placeOf}
 use Rattle.tile_layout.specs.declared.TileInfo.{TileInfo}
 use Rattle.tile_layout.specs.declared.TileRead.{TileRead}
-use Rattle.frame_hdr.specs.declared.FrameRead.{FrameRead}
+use Rattle.frame_layout.specs.declared.FrameRead.{FrameRead}
 use Rattle.flat.specs.Layout.{Buffers, hasRoom, layoutIn}
 use Rattle.lent.specs.Calls.{answered, tooShort}
 use Rattle.lent_tiles.specs.Calls.{handedTiles, handedFrame, lentTiles, lentFrames}

@@ -3,8 +3,8 @@ use Prim.Native.Nat.{ℕ}
 use mathlib.Core.Bool.{Bool}
 use mathlib.Core.List.{List}
 use Rattle.tile_layout.specs.declared.TileArgs.{TileArgs}
-use Rattle.frame_hdr.specs.declared.FrameHeader.{FrameHeader}
-use Rattle.frame_hdr.specs.declared.SeqLayout.{SeqLayout}
+use Rattle.frame_layout.specs.declared.FrameHeader.{FrameHeader}
+use Rattle.frame_layout.specs.declared.SeqLayout.{SeqLayout}
 use Rattle.flat.specs.Layout.{Buffers}
 use Rattle.lent_tiles.specs.Calls.{lentTiles, lentFrames}
 use Rattle.tile_limit.specs.Within.{parseTileInfoWithin, parseTileInfoFrmhdrWithin}

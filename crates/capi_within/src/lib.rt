@@ -3,7 +3,7 @@ ghost use mathlib.Core.Bool.{true, _&&_};
 ghost use mathlib.Core.List.{[], _∷_};
 ghost use mathlib.Core.Path.{_≡_};
 ghost use Rattle.flat.specs.Layout.{buffers, hasRoom, layoutIn};
-ghost use Rattle.frame_hdr.specs.Frame.{frameTiles, parseTileInfoFrmhdr};
+ghost use Rattle.frame_layout.specs.Frame.{frameTiles, parseTileInfoFrmhdr};
 ghost use Rattle.lent.specs.Lent.{placeOf};
 ghost use Rattle.lent_tiles.specs.Calls.{lentTileInfo, isKnown, frameGiven, seqGiven, lentFrame};
 ghost use Rattle.lent_tiles.specs.Left.{tilesLeft};

@@ -6,7 +6,7 @@ use mathlib.Core.List.{List}
 use Prim.Native.Nat.{ℕ, zero, suc, _+_, _-_, _*_, _^_, _≤_, _<_}
 use native.Mathlib.Nat.{pow-suc, lt-irrefl, lt-of-lt-of-le, lt-of-le-of-lt}
 use native.Mathlib.Omega.{arith}
-use borrow.Author.Tests.{ltb-true, ltb-false, leb-true, leb-false}
+use borrow.Author.Tests.{lt-leb, ltb-true, ltb-false, leb-true, leb-false}
 use lib.Count.{leading-top}
 use lib.Dec.{leb, ltb, eqb}
 use lib.ListN.{length}
@@ -16,7 +16,7 @@ use Rattle.getbits.specs.Bits.{bitCount, position, readBits, getBit, refused, s
 use Rattle.getbits.specs.Chain.{pick, then}
 use Rattle.getbits.specs.declared.Number.{Number}
 use Rattle.getbits.specs.declared.Place.{Place}
-use Rattle.getbits.proofs.Chain.{both, picked}
+use Rattle.getbits.proofs.Chain.{both, picked, through, left}
 use Rattle.getbits.proofs.Places.{lt-or-le, pos-in}
 use Rattle.getbits.proofs.Callers.{read-lt, bit-lt}
 use Rattle.codes.specs.Codes.{plus, bitLength, getUniform, subexpFrom, invRecenter, subexpArgs, getBitsSubexpU}
@@ -38,6 +38,16 @@ length-is x h k =
 -- the same of a number that is the bit length
 pub length-at : (x l : ℕ) → l ≡ bitLength x → 1 ≤ x → x < 2 ^ 31 → (1 ≤ l) × (l < 32) × (x < 2 ^ l) × (2 ^ (l - 1) ≤ x)
 length-at x l e h k = rw e (length-is x h k)
+
+-- get_uniform with more numbers than one: l bits, or one less for the first m of them
+pub uniform-more : (s : List ℕ) (p : Place) (max l m : ℕ) → l ≡ bitLength max → m ≡ 2 ^ bitLength max - max → 2 ≤ max → max < 2 ^ 31
+    → getUniform s p max ≡ (then (readBits s p (l - 1)) λ r. pick (ltb (r .value) m) r (then (getBit s (r .next)) λ b. record { value = 2 * r .value - m + b .value; next = b .next }))
+unfolding getUniform
+uniform-more s p max l m el em some low =
+    left _ _ _ (lt-leb max 1 some)
+    ∙ left _ _ _ (lt-leb (2 ^ 31) max low)
+    ∙ through _ _ el
+    ∙ through _ _ (em ∙ ap (λ (n : ℕ). 2 ^ n - max) (sym el))
 
 -- one of max numbers is below max
 pub uniform-lt : (s : List ℕ) (p : Place) (max : ℕ) → 1 ≤ max → getUniform s p max .value < max

@@ -1,3 +1,4 @@
+pub mod Word
 pub mod Runs
 pub mod Callers
 pub mod Args

@@ -85,14 +85,41 @@ pub fn uniform_forms(max: u32) -> Forms
     }
 }
 
+// get_uniform bit by bit.
+fn uniform_by_bits(s: &[u8], p: Place, max: u32) -> Number
+    ensures { λ r. ⌜ r ≡ getUniform (now (s .entry)) p max ⌝ }
+{
+    if max <= 1 {
+        return read_bits(s, p, 0);
+    }
+    if 0x8000_0000 <= max {
+        return refuse(s, p);
+    }
+    let f = uniform_forms(max);
+    let l = f.bits;
+    let m = f.short;
+    let r = read_bits(s, p, l - 1);
+    let v = r.value;
+    let q = r.next;
+    if v < m {
+        return r;
+    }
+    let b = get_bit(s, q);
+    let next = b.next;
+    Number {
+        value: 2 * v - m + b.value,
+        next,
+    }
+}
+
 // A number below max, and how many bits it takes.
-pub struct Uniform {
-    pub value: u32,
-    pub bits: u32,
+struct Uniform {
+    value: u32,
+    bits: u32,
 }
 
 // get_uniform out of the 32 bits behind a place, where they are all there.
-pub fn uniform_of(word: u32, max: u32) -> Uniform
+fn uniform_of(word: u32, max: u32) -> Uniform
     ensures reads { λ r. ⌜ ((s : List ℕ) (p : Place) → word ≡ lookAt s p 32 → position s p + 32 ≤ bitCount s → 1 ≤ max → max < 2 ^ 31
         → (r .value ≡ getUniform s p max .value) × (readBits s p (r .bits) .next ≡ getUniform s p max .next)) ⌝ }
     ensures most { λ r. ⌜ r .bits ≤ 32 ⌝ }
@@ -112,7 +139,7 @@ pub fn uniform_of(word: u32, max: u32) -> Uniform
 }
 
 // Are eight bytes left? So many that no number runs out.
-pub fn eight_left(s: &[u8], p: Place) -> bool
+fn eight_left(s: &[u8], p: Place) -> bool
     ensures { λ r. ⌜ r ≡ ltb (p .used) 8 && leb (p .byte + 8) (length (now (s .entry))) ⌝ }
 {
     if 8 <= p.used {
@@ -124,39 +151,25 @@ pub fn eight_left(s: &[u8], p: Place) -> bool
     p.byte <= s.len() - 8
 }
 
+// Where eight bytes are left, the number comes out of one word. It is inlined in its callers, and so keeps a place out of memory.
 pub fn get_uniform(s: &[u8], p: Place, max: u32) -> Number
     ensures { λ r. ⌜ r ≡ getUniform (now (s .entry)) p max ⌝ }
 {
-    if max <= 1 {
-        return read_bits(s, p, 0);
+    if (1 <= max) & (max < 0x8000_0000) {
+        if eight_left(s, p) {
+            let u = uniform_of(look_ahead(s, p, 32), max);
+            let stop = p.used + u.bits;
+            return Number {
+                value: u.value,
+                next: Place {
+                    byte: p.byte + (stop / 8) as usize,
+                    used: stop % 8,
+                    error: p.error,
+                },
+            };
+        }
     }
-    if 0x8000_0000 <= max {
-        return refuse(s, p);
-    }
-    if eight_left(s, p) {
-        let u = uniform_of(look_ahead(s, p, 32), max);
-        let r = read_bits(s, p, u.bits);
-        let next = r.next;
-        return Number {
-            value: u.value,
-            next,
-        };
-    }
-    let f = uniform_forms(max);
-    let l = f.bits;
-    let m = f.short;
-    let r = read_bits(s, p, l - 1);
-    let v = r.value;
-    let q = r.next;
-    if v < m {
-        return r;
-    }
-    let b = get_bit(s, q);
-    let next = b.next;
-    Number {
-        value: 2 * v - m + b.value,
-        next,
-    }
+    uniform_by_bits(s, p, max)
 }
 
 pub fn get_ref_uniform(s: &[u8], p: Place, max: u32, def: u32) -> Number

@@ -17,10 +17,10 @@ use Rattle.seq_record.specs.declared.SequenceHeader.{SequenceHeader}
 use Rattle.seq_hdr.specs.Header.{refusedHeader, checkTrailingBits, readHead, withTiling, parseSeqHdr}
 use Rattle.seq_hdr.specs.HeaderLayout.{argsBefore}
 use Rattle.seq_hdr.specs.Tiling.{tileInfoIf, readTiling}
-use Rattle.frame_hdr.specs.Frame.{inFrameDomain, frameArgs, readReuse, freshLayout, parseTileInfoFrmhdr, frameTiles}
-use Rattle.frame_hdr.specs.Sequence.{seqLayout}
-use Rattle.frame_hdr.specs.declared.FrameHeader.{FrameHeader}
-use Rattle.frame_hdr.specs.declared.SeqLayout.{SeqLayout}
+use Rattle.frame_layout.specs.Frame.{inFrameDomain, frameArgs, readReuse, freshLayout, parseTileInfoFrmhdr, frameTiles}
+use Rattle.frame_layout.specs.Sequence.{seqLayout}
+use Rattle.frame_layout.specs.declared.FrameHeader.{FrameHeader}
+use Rattle.frame_layout.specs.declared.SeqLayout.{SeqLayout}
 use Rattle.tile_limit.specs.Within.{isTooMany, frameWithin, parseTileInfoWithin, parseTileInfoFrmhdrWithin}
 use Rattle.tile_limit.specs.declared.TileLimit.{TileLimit}
 use Rattle.tile_limit.proofs.Limited.{within-accepted}

@@ -12,11 +12,11 @@ use Rattle.tile_layout.specs.declared.TileInfo.{TileInfo}
 use Rattle.tile_layout.specs.declared.TileRead.{TileRead}
 use Rattle.seq_hdr.specs.Header.{parseSeqHdr}
 use Rattle.seq_hdr.specs.declared.SeqRead.{SeqRead}
-use Rattle.frame_hdr.specs.Frame.{isOff, frameArgs, readReuse, parseTileInfoFrmhdr}
-use Rattle.frame_hdr.specs.Sequence.{seqLayout}
-use Rattle.frame_hdr.specs.declared.FrameHeader.{FrameHeader}
-use Rattle.frame_hdr.specs.declared.FrameRead.{FrameRead}
-use Rattle.frame_hdr.specs.declared.SeqLayout.{SeqLayout}
+use Rattle.frame_layout.specs.Frame.{isOff, frameArgs, readReuse, parseTileInfoFrmhdr}
+use Rattle.frame_layout.specs.Sequence.{seqLayout}
+use Rattle.frame_layout.specs.declared.FrameHeader.{FrameHeader}
+use Rattle.frame_layout.specs.declared.FrameRead.{FrameRead}
+use Rattle.frame_layout.specs.declared.SeqLayout.{SeqLayout}
 use Rattle.tile_limit.specs.Within.{parseTileInfoWithin, parseTileInfoFrmhdrWithin}
 use Rattle.tile_limit.specs.declared.TileLimit.{TileLimit}
 use Rattle.rectangles.specs.Covering.{Covering}

@@ -1,4 +1,3 @@
-pub mod Parts
 pub mod Numbers
 pub mod Stops
 pub mod Answers

@@ -28,10 +28,6 @@ pub record CoeffLists : Type 0 where
 unfoldable pub bitsLess : List ℕ → Place → ℕ → ℕ → Less
 bitsLess s p n less = then (getBits s p (pos n)) λ r. record { value = pos (r .value) -ℤ pos less; next = r .next }
 
--- a plane's coefficients that stand in lent bytes
-abbrev pub lentCoeffs : List ℤ → Place → CoeffsRead
-lentCoeffs coeffs p = record { list = record { coeffs = coeffs }; next = p }
-
 -- a plane's coefficients of which none is read: zeros
 abbrev pub noCoeffs : Place → CoeffsRead
 noCoeffs p = record { list = record { coeffs = replicate 28 (pos 0) }; next = p }
@@ -54,10 +50,6 @@ coeffsIf false s p n = noCoeffs p
 -- how many coefficients a lag gives
 abbrev pub numPos : ℕ → ℕ
 numPos lag = 2 * lag * (lag + 1)
-
--- the coefficients of luma and of both chroma planes, out of three lists
-abbrev pub coeffLists : List ℤ → List ℤ → List ℤ → List PlaneCoeffs
-coeffLists y u v = record { coeffs = y } ∷ record { coeffs = u } ∷ record { coeffs = v } ∷ []
 
 -- the coefficients of the planes: luma's if it has points; a chroma plane's if it has points or is scaled from luma, and one more of them if
 -- luma has points

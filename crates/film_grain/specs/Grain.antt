@@ -15,9 +15,6 @@ use Rattle.film_grain.specs.Coeffs.{planeCoeffs, chromaOffsets}
 use Rattle.film_grain.specs.Points.{PointLists, hasPoints, pointLists}
 use Rattle.film_grain.specs.declared.FilmGrainData.{FilmGrainData}
 use Rattle.film_grain.specs.declared.FilmGrainRead.{FilmGrainRead}
-use Rattle.film_grain.specs.declared.GrainFields.{GrainFields}
-use Rattle.film_grain.specs.declared.PlaneCoeffs.{PlaneCoeffs}
-use Rattle.film_grain.specs.declared.PlanePoints.{PlanePoints}
 
 -- the zero record
 abbrev pub noFilmGrain : FilmGrainData
@@ -92,32 +89,6 @@ grainFields from-luma s lists =
         «block_size» = block .value;
       };
       next = block .next;
-    })
-
--- the record of lists and of the fields behind them, out of its parts; refused where the reader's error is set
-abbrev pub grainRead : Bool → List ℕ → List PlanePoints → List PlaneCoeffs → GrainFields → FilmGrainRead
-grainRead from-luma num-points points ar-coeffs f =
-    pick (f .next .error) (refusedGrain (f .next))
-    (record {
-      answer = Accepted;
-      fgd = record {
-        «chroma_scaling_from_luma» = from-luma;
-        «num_points» = num-points;
-        points = points;
-        «scaling_shift» = f .«scaling_shift»;
-        «ar_coeff_lag» = f .«ar_coeff_lag»;
-        «ar_coeffs» = ar-coeffs;
-        «ar_coeff_shift» = f .«ar_coeff_shift»;
-        «grain_scale_shift» = f .«grain_scale_shift»;
-        «uv_mult» = f .«uv_mult»;
-        «uv_luma_mult» = f .«uv_luma_mult»;
-        «uv_offset» = f .«uv_offset»;
-        «overlap_flag» = f .«overlap_flag»;
-        «clip_to_restricted_range» = f .«clip_to_restricted_range»;
-        «mc_identity» = f .«mc_identity»;
-        «block_size» = f .«block_size»;
-      };
-      next = f .next;
     })
 
 -- parse_film_grain_data: with chroma a flag says whether it is scaled from luma, and then it has no points of its own; the point lists, the

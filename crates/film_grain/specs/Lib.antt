@@ -2,3 +2,4 @@ pub mod Points
 pub mod Coeffs
 pub mod Grain
 pub mod Promises
+pub mod Inner

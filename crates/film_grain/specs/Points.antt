@@ -10,8 +10,6 @@ use Rattle.getbits.specs.Chain.{pick, then, turns}
 use Rattle.getbits.specs.declared.Place.{Place}
 use Rattle.seq_fields.specs.Fields.{getSmall}
 use Rattle.film_grain.specs.declared.PlanePoints.{PlanePoints}
-use Rattle.film_grain.specs.declared.points.ListsEnd.{ListsEnd}
-use Rattle.film_grain.specs.declared.points.PointsEnd.{PointsEnd}
 
 -- the points of a plane: how many, and the position that the last one read has
 pub record PointsRead : Type 0 where
@@ -35,17 +33,6 @@ hasPoints n = not (eqb n 0)
 -- a list of n points of which none is read, or one that is refused: zeros
 abbrev pub noPoints : ℕ → Bool → Place → PointsRead
 noPoints n refused p = record { refused = refused; «num_points» = n; base = 0; list = record { points = replicate 28 0 }; next = p }
-
--- the points of a plane whose list stands in lent bytes; that of a refused one counts as zeros
-abbrev pub lentPoints : PointsEnd → List ℕ → PointsRead
-lentPoints r points =
-    record {
-      refused = r .refused;
-      «num_points» = r .«num_points»;
-      base = r .base;
-      list = record { points = pick (r .refused) (replicate 28 0) points };
-      next = r .next;
-    }
 
 -- point i: its position is the one before it and a step; past 255 it is refused right behind the step's bits, else its value follows.
 -- Behind a refusal nothing is read
@@ -96,7 +83,3 @@ pointLists chroma s p =
       points = y .list ∷ u .list ∷ v .list ∷ [];
       next = v .next;
     }
-
--- the same without the lists
-abbrev pub listsEnd : PointLists → ListsEnd
-listsEnd l = record { refused = l .refused; «num_points» = l .«num_points»; next = l .next }

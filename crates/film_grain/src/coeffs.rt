@@ -4,15 +4,15 @@ ghost use Prim.Native.Nat.{_+_, _-_, _*_, _^_, _<_, _≤_};
 ghost use lib.IntN.{pos, _-ℤ_};
 ghost use lib.ListN.{length, replicate};
 ghost use Rattle.getbits.specs.Bits.{bitCount, position};
-ghost use Rattle.film_grain.specs.Coeffs.{bitsLess, lentCoeffs, coeff, coeffsFrom, coeffsIf, numPos, coeffLists, planeCoeffs};
-ghost use Rattle.film_grain.specs.Coeffs.{offsetsIf, chromaOffsets};
-use super::ahead::skip;
-use super::ahead::there;
+ghost use Rattle.film_grain.specs.Coeffs.{bitsLess, coeff, coeffsFrom, coeffsIf, numPos, planeCoeffs, offsetsIf, chromaOffsets};
+ghost use Rattle.film_grain.specs.Inner.{lentCoeffs, coeffLists};
 use super::points::has_points;
 use getbits::Place;
 use getbits::look_ahead;
+use getbits::more_than;
 use getbits::power;
 use getbits::read_bits;
+use getbits::skip;
 use seq_fields::bit;
 use seq_fields::get_small;
 
@@ -95,7 +95,7 @@ fn read_coeffs(s: &[u8], p: Place, n: usize, coef_bits: u32, coeffs: &mut [i8]) 
     let mut next = p;
     let mut i: usize = 0;
     while i < n {
-        if (i + 4 <= n) & there(s, next, 4 * coef_bits) {
+        if (i + 4 <= n) & more_than(s, next, 4 * coef_bits) {
             next = four_coeffs(s, next, i, coef_bits, half, &mut *coeffs);
             i += 4;
         } else {
@@ -168,7 +168,7 @@ fn offsets_if(s: &[u8], p: Place, cond: bool) -> OffsetsRead
     ensures { λ r. ⌜ r ≡ offsetsIf cond (now (s .entry)) p ⌝ }
 {
     if cond {
-        if there(s, p, 25) {
+        if more_than(s, p, 25) {
             let w = look_ahead(s, p, 25);
             return OffsetsRead {
                 mult: minus(w >> 17, 128),

@@ -2,8 +2,8 @@
 ghost use mathlib.Core.Path.{_≡_};
 ghost use lib.IntN.{pos};
 ghost use lib.ListN.{replicate};
-ghost use Rattle.film_grain.specs.Coeffs.{coeffLists};
-ghost use Rattle.film_grain.specs.Grain.{noFilmGrain, refusedGrain, isI420, oneListEmpty, grainFields, grainRead, parseFilmGrainData};
+ghost use Rattle.film_grain.specs.Grain.{noFilmGrain, refusedGrain, isI420, oneListEmpty, grainFields, parseFilmGrainData};
+ghost use Rattle.film_grain.specs.Inner.{coeffLists, grainRead};
 ghost use Rattle.film_grain.specs.Points.{PointLists};
 ghost use Rattle.film_grain.specs.Promises.{GrainLists};
 use answers::Answer;
@@ -14,7 +14,6 @@ use seq_fields::PixelLayout;
 use seq_fields::get_small;
 use seq_fields::is_mono;
 
-mod ahead;
 mod coeffs;
 mod points;
 
@@ -59,19 +58,19 @@ pub struct FilmGrainRead {
 }
 
 // The fields behind the point lists, but for the coefficients, and the place after them.
-pub struct GrainFields {
-    pub scaling_shift: u8,
-    pub ar_coeff_lag: u8,
-    pub ar_coeff_shift: u8,
-    pub grain_scale_shift: u8,
-    pub uv_mult: [i16; 2],
-    pub uv_luma_mult: [i16; 2],
-    pub uv_offset: [i16; 2],
-    pub overlap_flag: bool,
-    pub clip_to_restricted_range: bool,
-    pub mc_identity: bool,
-    pub block_size: u8,
-    pub next: Place,
+struct GrainFields {
+    scaling_shift: u8,
+    ar_coeff_lag: u8,
+    ar_coeff_shift: u8,
+    grain_scale_shift: u8,
+    uv_mult: [i16; 2],
+    uv_luma_mult: [i16; 2],
+    uv_offset: [i16; 2],
+    overlap_flag: bool,
+    clip_to_restricted_range: bool,
+    mc_identity: bool,
+    block_size: u8,
+    next: Place,
 }
 
 // The zero record.

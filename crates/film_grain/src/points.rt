@@ -9,13 +9,14 @@ ghost use lib.ListN.{replicate};
 ghost use Rattle.getbits.specs.Bits.{getBits};
 ghost use Rattle.getbits.specs.Chain.{pick};
 ghost use Rattle.seq_fields.specs.Fields.{getSmall};
-ghost use Rattle.film_grain.specs.Points.{hasPoints, noPoints, lentPoints, pointsFrom, planePoints, pointsIf, pointLists, listsEnd};
-use super::ahead::skip;
-use super::ahead::there;
+ghost use Rattle.film_grain.specs.Inner.{lentPoints, listsEnd};
+ghost use Rattle.film_grain.specs.Points.{hasPoints, noPoints, pointsFrom, planePoints, pointsIf, pointLists};
 use getbits::Place;
 use getbits::look_ahead;
+use getbits::more_than;
 use getbits::power;
 use getbits::read_bits;
+use getbits::skip;
 use seq_fields::get_small;
 
 // The points of a plane, but for the list: how many, and the position that the last one read has.
@@ -74,7 +75,7 @@ fn read_point(s: &[u8], p: Place, index_bits: u32, scaling_bits: u32) -> PointRe
     ensures { λ r. ⌜ record { value = r .value; next = r .next } ≡ getSmall (now (s .entry)) (getBits (now (s .entry)) p (pos «index_bits») .next) «scaling_bits» ⌝ }
 {
     let both = index_bits + scaling_bits;
-    if there(s, p, both) {
+    if more_than(s, p, both) {
         let w = look_ahead(s, p, both);
         return PointRead {
             step: w >> scaling_bits,
@@ -131,7 +132,7 @@ fn point_widths(s: &[u8], p: Place) -> PointWidths
         ≡ pick (ltb 14 (r .«num_points»)) (noPoints 0 true (r .next)) (pointsFrom (now (s .entry)) (r .next) (r .«num_points») (r .«index_bits») (r .«scaling_bits»)) ⌝ }
     ensures { λ r. ⌜ (1 ≤ r .«index_bits») × (r .«index_bits» ≤ 8) × (1 ≤ r .«scaling_bits») × (r .«scaling_bits» ≤ 8) ⌝ }
 {
-    if there(s, p, 9) {
+    if more_than(s, p, 9) {
         let w = look_ahead(s, p, 9);
         let n = (w / 32) as u8;
         if (n == 0) | (14 < n) {

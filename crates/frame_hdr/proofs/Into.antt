@@ -1,9 +1,10 @@
 -- A frame's layout that goes into lent buffers. Assumes nothing.
 use mathlib.Core.Bool.{Bool, true, false, _&&_}
 use mathlib.Core.List.{List}
-use mathlib.Core.Path.{_≡_, refl, sym, _∙_, ap}
+use mathlib.Core.Path.{_≡_, refl, sym, _∙_, ap, subst}
 use Prim.Native.Nat.{ℕ}
 use lib.Dec.{eqb}
+use lib.IntN.{ℤ}
 use lib.ListN.{length, getD, take}
 use Rattle.answers.specs.Numbers.{isRefusal}
 use Rattle.getbits.specs.Chain.{pick, then}
@@ -19,13 +20,13 @@ use Rattle.tile_layout.specs.declared.TileRead.{TileRead}
 use Rattle.superblocks.specs.Counts.{fitsUniform}
 use Rattle.flat.specs.Layout.{Buffers, hasRoom, putLayout, layoutIn}
 use Rattle.flat.proofs.Room.{came-back}
-use Rattle.frame_hdr.specs.Frame.{isOff, inFrameDomain, frameArgs, sameCounts, reuseAllowed, readReuse, withLayout, freshLayout, parseTileInfoFrmhdr}
+use Rattle.frame_layout.specs.Frame.{isOff, inFrameDomain, frameArgs, sameCounts, reuseAllowed, readReuse, withLayout, freshLayout, parseTileInfoFrmhdr, FrameLayout}
 use Rattle.frame_hdr.specs.Into.{frameIn, seqIn, frameInto, parseTileInfoFrmhdrInto}
-use Rattle.frame_hdr.specs.declared.FrameHeader.{FrameHeader}
+use Rattle.frame_layout.specs.declared.FrameHeader.{FrameHeader}
 use Rattle.frame_hdr.specs.declared.FrameOutcome.{FrameOutcome}
-use Rattle.frame_hdr.specs.declared.FrameRead.{FrameRead}
-use Rattle.frame_hdr.specs.declared.SeqLayout.{SeqLayout}
-use Rattle.frame_hdr.proofs.Cleared.{frame-over}
+use Rattle.frame_layout.specs.declared.FrameRead.{FrameRead}
+use Rattle.frame_layout.specs.declared.SeqLayout.{SeqLayout}
+use Rattle.frame_layout.proofs.Cleared.{frame-over, frame-promised}
 
 -- the layout in buffers that have room
 abbrev pub Held : Buffers → TileInfo
@@ -127,11 +128,11 @@ module _ (s : List ℕ) (p : Place) (h : FrameHeader) (q : SeqLayout) (b seq : B
       ap (λ (t : TileInfo). parseTileInfoFrmhdr s p (withLayout h (h .sb128) t) theirs) holds
       ∙ ap (λ (t : TileInfo). parseTileInfoFrmhdr s p h (record { sb128 = q .sb128; «max_width» = q .«max_width»; «max_height» = q .«max_height»; level = q .level; tier = q .tier; present = q .present; t = t })) held
 
-  pub whole-frame : {r : FrameOutcome} {after : Buffers} → (r, after) ≡ parseTileInfoFrmhdrInto s p b seq own theirs
+  read-frame : {r : FrameOutcome} {after : Buffers} → (r, after) ≡ parseTileInfoFrmhdrInto s p b seq own theirs
       → (hasRoom b && hasRoom seq ≡ true → isRefusal (r .answer) ≡ false → layoutIn after ≡ parseTileInfoFrmhdr s p own theirs .hdr .tiling)
       → record { answer = r .answer; hdr = withLayout h (r .sb128) (layoutIn after); next = r .next } ≡ parseTileInfoFrmhdr s p h q
   unfolding parseTileInfoFrmhdrInto
-  whole-frame {r} {after} e back =
+  read-frame {r} {after} e back =
       rw (outcome, info (isRefusal (z .answer)) refl) (ap (λ (x : FrameHeader). record { answer = z .answer; hdr = x; next = z .next }) (same-frame s p h q))
     where
       z : FrameRead
@@ -146,3 +147,15 @@ module _ (s : List ℕ) (p : Place) (h : FrameHeader) (q : SeqLayout) (b seq : B
       info : (t : Bool) → isRefusal (z .answer) ≡ t → layoutIn after ≡ z .hdr .tiling
       info true f = ap layoutIn (ap (λ (x : FrameOutcome × Buffers). x .1) put ∙ taken _ _ _ f) ∙ holds ∙ sym (frame-over s p h q .kept f)
       info false f = back has (ap (λ (x : FrameOutcome). isRefusal (x .answer)) outcome ∙ f) ∙ ap (λ (x : FrameRead). x .hdr .tiling) same
+
+  pub whole-frame : {width height widest highest : ℤ} {r : FrameOutcome} {after : Buffers} {t : TileInfo} {x : FrameHeader}
+      → (let own' = frameIn (h .«frame_type») width height (h .sb128) b in let theirs' = seqIn (q .sb128) widest highest (q .level) (q .tier) (q .present) seq in
+      ((r, after) ≡ parseTileInfoFrmhdrInto s p b seq own' theirs')
+      × (hasRoom b && hasRoom seq ≡ true → isRefusal (r .answer) ≡ false → layoutIn after ≡ parseTileInfoFrmhdr s p own' theirs' .hdr .tiling))
+      → width ≡ h .width → height ≡ h .height → widest ≡ q .«max_width» → highest ≡ q .«max_height»
+      → t ≡ layoutIn after → x ≡ withLayout h (r .sb128) t
+      → let z : FrameRead = record { answer = r .answer; hdr = x; next = r .next } in (z ≡ parseTileInfoFrmhdr s p h q) × FrameLayout s p h q z
+  whole-frame {r = r} into w e m n back with-it =
+      let read = rw (w, e, m, n) at into in
+      let z = ap (λ (x : FrameHeader). record { answer = r .answer; hdr = x; next = r .next }) (with-it ∙ ap (withLayout h (r .sb128)) back) ∙ read-frame (read .0) (read .1) in
+      (z, subst (FrameLayout s p h q) (sym z) (frame-promised s p h q))

@@ -1,4 +1,1 @@
-pub mod Usable
-pub mod Fresh
-pub mod Cleared
 pub mod Into

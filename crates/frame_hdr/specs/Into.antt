@@ -10,12 +10,12 @@ use Rattle.getbits.specs.Chain.{pick}
 use Rattle.getbits.specs.declared.Place.{Place}
 use Rattle.seq_fields.specs.declared.AdaptiveBoolean.{AdaptiveBoolean}
 use Rattle.flat.specs.Layout.{Buffers, hasRoom, putLayout, layoutIn}
-use Rattle.frame_hdr.specs.Frame.{parseTileInfoFrmhdr}
-use Rattle.frame_hdr.specs.declared.FrameType.{FrameType}
-use Rattle.frame_hdr.specs.declared.FrameHeader.{FrameHeader}
+use Rattle.frame_layout.specs.Frame.{parseTileInfoFrmhdr}
+use Rattle.frame_layout.specs.declared.FrameType.{FrameType}
+use Rattle.frame_layout.specs.declared.FrameHeader.{FrameHeader}
 use Rattle.frame_hdr.specs.declared.FrameOutcome.{FrameOutcome}
-use Rattle.frame_hdr.specs.declared.FrameRead.{FrameRead}
-use Rattle.frame_hdr.specs.declared.SeqLayout.{SeqLayout}
+use Rattle.frame_layout.specs.declared.FrameRead.{FrameRead}
+use Rattle.frame_layout.specs.declared.SeqLayout.{SeqLayout}
 
 -- a frame: its type, its size, its code, and the layout in its buffers
 abbrev pub frameIn : FrameType → ℤ → ℤ → ℕ → Buffers → FrameHeader

@@ -1,3 +1,1 @@
-pub mod Frame
 pub mod Into
-pub mod Sequence

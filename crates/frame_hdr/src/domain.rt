@@ -4,7 +4,7 @@ ghost use Prim.Native.Nat.{_≤_};
 ghost use lib.ListN.{length, take};
 ghost use Rattle.flat.specs.Layout.{buffers};
 ghost use Rattle.tile_layout.specs.Limits.{unsigned, isSize};
-ghost use Rattle.frame_hdr.specs.Frame.{startsLow, usableTiles, isOff, usable};
+ghost use Rattle.frame_layout.specs.Frame.{startsLow, usableTiles, isOff, usable};
 ghost use Rattle.frame_hdr.specs.Into.{seqIn};
 use seq_fields::AdaptiveBoolean;
 use tile_layout::is_size;

@@ -7,14 +7,18 @@ ghost use Rattle.getbits.specs.Chain.{pick};
 ghost use Rattle.superblocks.specs.Counts.{multiplierOf};
 ghost use Rattle.tile_layout.specs.Limits.{unsigned, inDomain};
 ghost use Rattle.tile_layout.specs.Layout.{parseTileInfo};
-ghost use Rattle.frame_hdr.specs.Frame.{frameTypeOf, presentOf, isInterOrSwitch, frameCode, withLayout, parseTileInfoFrmhdr, frameTiles, FrameLayout};
+ghost use Rattle.frame_layout.specs.Frame.{isInterOrSwitch, frameCode, withLayout, parseTileInfoFrmhdr, FrameLayout};
 ghost use Rattle.frame_hdr.specs.Into.{frameIn, seqIn, parseTileInfoFrmhdrInto};
-ghost use Rattle.frame_hdr.specs.Sequence.{seqLayout};
+ghost use Rattle.frame_layout.specs.Sequence.{seqLayout};
 use answers::Answer;
 use answers::is_refusal;
 use flat::has_room;
 use flat::put_tile_info;
 use flat::tile_info_of;
+use frame_layout::FrameHeader;
+use frame_layout::FrameRead;
+use frame_layout::FrameType;
+use frame_layout::SeqLayout;
 use getbits::Place;
 use getbits::read_bits;
 use lent::is_set;
@@ -24,7 +28,6 @@ use superblocks::multiplier_of;
 use tile_info::parse_tile_info_into;
 use tile_layout::TileArgs;
 use tile_layout::TileInfo;
-use tile_layout::TileRead;
 use tile_layout::not_below_0;
 
 mod domain;
@@ -36,79 +39,11 @@ use reuse::read_reuse;
 use reuse::reuse_allowed;
 use reuse::reused_layout;
 
-pub enum FrameType {
-    Key,
-    Inter,
-    Intra,
-    Switch,
-}
-
-// What a frame's header has of its size and its layout.
-pub struct FrameHeader {
-    pub frame_type: FrameType,
-    pub width: i32,
-    pub height: i32,
-    pub sb128: u8,
-    pub tiling: TileInfo,
-}
-
-// What a frame's layout needs of the sequence header.
-pub struct SeqLayout {
-    pub sb128: u8,
-    pub max_width: i32,
-    pub max_height: i32,
-    pub level: u8,
-    pub tier: u8,
-    pub present: AdaptiveBoolean,
-    pub t: TileInfo,
-}
-
-// The answer, the frame's header with it and the place after the reading. A refusal has the header that was given.
-pub struct FrameRead {
-    pub answer: Answer,
-    pub hdr: FrameHeader,
-    pub next: Place,
-}
-
 // The answer of a reading into lent buffers, the frame's code and the place after the reading. A refusal has the code that was given.
 pub struct FrameOutcome {
     pub answer: Answer,
     pub sb128: u8,
     pub next: Place,
-}
-
-// The layout in a frame's answer.
-pub fn frame_tiles(r: FrameRead) -> TileRead
-    ensures { λ x. ⌜ x ≡ frameTiles r ⌝ }
-{
-    let answer = r.answer;
-    let hdr = r.hdr;
-    let info = hdr.tiling;
-    let next = r.next;
-    TileRead { answer, info, next }
-}
-
-// The type with a number.
-pub fn frame_type_of(n: u8) -> FrameType
-    ensures { λ r. ⌜ r ≡ frameTypeOf n ⌝ }
-{
-    match n {
-        0 => FrameType::Key,
-        1 => FrameType::Inter,
-        2 => FrameType::Intra,
-        _ => FrameType::Switch,
-    }
-}
-
-// The presence with a number.
-pub fn present_of(n: u8) -> AdaptiveBoolean
-    ensures { λ r. ⌜ r ≡ presentOf n ⌝ }
-{
-    match n {
-        0 => AdaptiveBoolean::Off,
-        1 => AdaptiveBoolean::On,
-        _ => AdaptiveBoolean::Adaptive,
-    }
 }
 
 fn is_inter_or_switch(frame_type: FrameType) -> bool

@@ -10,7 +10,7 @@ ghost use Rattle.getbits.specs.Chain.{pick};
 ghost use Rattle.tile_layout.specs.Limits.{unsigned, superblocks, inDomain, sbw, sbh};
 ghost use Rattle.tile_layout.specs.Layout.{padded, tabulate};
 ghost use Rattle.superblocks.specs.Counts.{multiplierOf, fitsUniform};
-ghost use Rattle.frame_hdr.specs.Frame.{startsLow, usableTiles, isOff, notReused, askReuse, reusedStarts, reusedInfo};
+ghost use Rattle.frame_layout.specs.Frame.{startsLow, usableTiles, isOff, notReused, askReuse, reusedStarts, reusedInfo};
 use super::domain::is_off;
 use flat::clear_starts;
 use flat::put_layout_bytes;

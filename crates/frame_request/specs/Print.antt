@@ -2,7 +2,7 @@
 use mathlib.Core.List.{List}
 use Prim.Native.Nat.{ℕ}
 use Rattle.answers.specs.Numbers.{numberOf, isRefusal}
-use Rattle.frame_hdr.specs.declared.FrameRead.{FrameRead}
+use Rattle.frame_layout.specs.declared.FrameRead.{FrameRead}
 use Rattle.getbits.specs.Chain.{pick}
 use Rattle.program.specs.Output.{refusedText}
 use Rattle.tile_request.specs.Whole.{wholeLayoutText}

@@ -13,12 +13,14 @@ use Rattle.getbits.specs.Chain.{pick, then}
 use Rattle.program.specs.Input.{byteAt, twoAt, isInput}
 use Rattle.tile_layout.specs.Limits.{noTileInfo}
 use Rattle.seq_hdr.specs.Header.{parseSeqHdr}
-use Rattle.frame_hdr.specs.declared.FrameHeader.{FrameHeader}
-use Rattle.frame_hdr.specs.declared.FrameRead.{FrameRead}
-use Rattle.frame_hdr.specs.declared.FrameType.{FrameType}
-use Rattle.frame_hdr.specs.declared.FrameType.the-variants.{Key}
-use Rattle.frame_hdr.specs.Frame.{isFrameType, frameTypeOf, parseTileInfoFrmhdr}
-use Rattle.frame_hdr.specs.Sequence.{seqLayout}
+use Rattle.seq_hdr.specs.declared.SeqRead.{SeqRead}
+use Rattle.frame_request.specs.declared.SequenceArgs.{SequenceArgs}
+use Rattle.frame_layout.specs.declared.FrameHeader.{FrameHeader}
+use Rattle.frame_layout.specs.declared.FrameRead.{FrameRead}
+use Rattle.frame_layout.specs.declared.FrameType.{FrameType}
+use Rattle.frame_layout.specs.declared.FrameType.the-variants.{Key}
+use Rattle.frame_layout.specs.Frame.{isFrameType, frameTypeOf, parseTileInfoFrmhdr}
+use Rattle.frame_layout.specs.Sequence.{seqLayout}
 
 -- where the frame begins: behind the header's length L and L bytes of header
 abbrev pub frameAt : List ℕ → ℕ
@@ -40,11 +42,22 @@ isFrameRequest s = (isInput s && leb (frameAt s + 5) (length s)) && isFrameType 
 abbrev pub noFrame : Answer → FrameRead
 noFrame z = record { answer = z; hdr = frameOf Key 1 1; next = placeAt 0 false }
 
--- the header is read not strict, and the frame with its record; another input is 4
+-- the sequence header, read not strict
+abbrev pub requestHeader : List ℕ → SeqRead
+requestHeader s = parseSeqHdr (take (twoAt s 0) (drop 2 s)) (placeAt 0 false) false
+
+-- what the frame's layout is read for besides the frame: the sequence's code, level and tier; of another input zeros
+unfoldable pub sequenceArgs : List ℕ → SequenceArgs
+sequenceArgs s =
+    pick (isFrameRequest s)
+    (then (requestHeader s) λ q. record { «seq_sb128» = q .hdr .blocks .partition .sb128; level = q .hdr .level .level; tier = q .hdr .level .tier })
+    (record { «seq_sb128» = 0; level = 0; tier = 0 })
+
+-- the header and the frame with its record; another input is 4
 unfoldable pub frameRequest : List ℕ → FrameRead
 frameRequest s =
     pick (isFrameRequest s)
-    (then (parseSeqHdr (take (twoAt s 0) (drop 2 s)) (placeAt 0 false) false) λ q.
+    (then (requestHeader s) λ q.
     pick (isRefusal (q .answer)) (noFrame (q .answer))
     (parseTileInfoFrmhdr (drop (frameAt s + 5) s) (placeAt 0 false) (givenFrame s) (seqLayout (q .hdr))))
     (noFrame WrongArguments)

@@ -1,25 +1,34 @@
-// What the programs frame, panel and rects share: a sequence header, a frame and tiling bits in bytes, and the text of a frame's layout.
+// What the programs frame, panel, rects and draw share: a sequence header, a frame and tiling bits in bytes, and the text of a frame's layout.
+ghost use mathlib.Core.Bool.{true};
 ghost use mathlib.Core.Path.{_≡_};
 ghost use Prim.Native.Nat.{_≤_};
 ghost use Rattle.text.specs.Text.{Put};
 ghost use Rattle.frame_request.specs.Print.{frameReadText};
-ghost use Rattle.frame_request.specs.Request.{frameOf, givenFrame, isFrameRequest, noFrame, frameRequest};
+ghost use Rattle.frame_request.specs.Request.{frameOf, givenFrame, isFrameRequest, noFrame, requestHeader, sequenceArgs, frameRequest};
 use answers::Answer;
 use answers::is_refusal;
 use answers::number;
-use frame_hdr::FrameHeader;
-use frame_hdr::FrameRead;
-use frame_hdr::FrameType;
-use frame_hdr::frame_type_of;
 use frame_hdr::parse_tile_info_frmhdr;
+use frame_layout::FrameHeader;
+use frame_layout::FrameRead;
+use frame_layout::FrameType;
+use frame_layout::frame_type_of;
 use getbits::Place;
 use program::byte_at;
 use program::is_input;
 use program::put_refused;
 use program::two_at;
+use seq_hdr::SeqRead;
 use seq_hdr::parse_seq_hdr;
 use tile_layout::no_tile_info;
 use tile_request::put_whole_layout;
+
+// What a frame's layout is read for besides the frame.
+pub struct SequenceArgs {
+    pub seq_sb128: u8,
+    pub level: u8,
+    pub tier: u8,
+}
 
 // A frame of a type and a size, with the zero layout.
 fn frame_of(frame_type: FrameType, w: usize, h: usize) -> FrameHeader
@@ -72,25 +81,57 @@ fn no_frame(answer: Answer) -> FrameRead
     }
 }
 
-pub fn frame_request(s: &[u8]) -> FrameRead
-    ensures { λ r. ⌜ r ≡ frameRequest (now (s .entry)) ⌝ }
+// The request's sequence header.
+fn request_header(s: &[u8]) -> SeqRead
+    requires { ⌜ isFrameRequest (now s) ≡ true ⌝ }
+    ensures { λ r. ⌜ r ≡ requestHeader (now (s .entry)) ⌝ }
 {
-    if !is_request(s) {
-        return no_frame(Answer::WrongArguments);
-    }
     let start = Place {
         byte: 0,
         used: 0,
         error: false,
     };
     let at_frame = two_at(s, 0) + 2;
-    let q = parse_seq_hdr(&s[2..at_frame], start, false);
+    parse_seq_hdr(&s[2..at_frame], start, false)
+}
+
+// The sequence's code, level and tier.
+pub fn sequence_args(s: &[u8]) -> SequenceArgs
+    ensures { λ r. ⌜ r ≡ sequenceArgs (now (s .entry)) ⌝ }
+{
+    if !is_request(s) {
+        return SequenceArgs {
+            seq_sb128: 0,
+            level: 0,
+            tier: 0,
+        };
+    }
+    let q = request_header(s);
+    SequenceArgs {
+        seq_sb128: q.hdr.blocks.partition.sb128,
+        level: q.hdr.level.level,
+        tier: q.hdr.level.tier,
+    }
+}
+
+pub fn frame_request(s: &[u8]) -> FrameRead
+    ensures { λ r. ⌜ r ≡ frameRequest (now (s .entry)) ⌝ }
+{
+    if !is_request(s) {
+        return no_frame(Answer::WrongArguments);
+    }
+    let q = request_header(s);
     let answer = q.answer;
     if is_refusal(answer) {
         return no_frame(answer);
     }
+    let start = Place {
+        byte: 0,
+        used: 0,
+        error: false,
+    };
     let seqhdr = q.hdr;
-    let bits = at_frame + 5;
+    let bits = two_at(s, 0) + 7;
     parse_tile_info_frmhdr(&s[bits..], start, given_frame(s), seqhdr)
 }
 

@@ -134,14 +134,17 @@ two-steps x k w h =
     let e : 1 + (w - 1 - k) ≡ w - k = omega arith in
     shr-shr x 1 (w - 1 - k) ∙ ap (λ (y : ℕ). x / 2 ^ y) e
 
--- of w bits the first shift drops the u before a field of n, the others what stands behind it
-pub shifts : (x u n w : ℕ) → u + n ≤ w → n < w → x * 2 ^ u % 2 ^ w / 2 / 2 ^ (w - 1 - n) ≡ x / 2 ^ (w - (u + n)) % 2 ^ n
-shifts x u n w h k =
+-- of w bits a shift drops the u before a field of n, and another what stands behind it
+pub shift-field : (x u n w : ℕ) → u + n ≤ w → x * 2 ^ u % 2 ^ w / 2 ^ (w - n) ≡ x / 2 ^ (w - (u + n)) % 2 ^ n
+shift-field x u n w h =
     let y = x * 2 ^ u in
     let whole : w ≡ n + (w - n) = omega arith in
     let rest : w - n ≡ u + (w - (u + n)) = omega arith in
-    two-steps (y % 2 ^ w) n w k
-    ∙ ap (λ (z : ℕ). y % 2 ^ z / 2 ^ (w - n)) whole
+    ap (λ (z : ℕ). y % 2 ^ z / 2 ^ (w - n)) whole
     ∙ field y n (w - n)
     ∙ ap (λ (z : ℕ). y / 2 ^ z % 2 ^ n) rest
     ∙ ap (λ (z : ℕ). z % 2 ^ n) (sym (shr-shr y u (w - (u + n))) ∙ ap (λ (z : ℕ). z / 2 ^ (w - (u + n))) (shl-shr x u))
+
+-- the same with the other in two steps
+pub shifts : (x u n w : ℕ) → u + n ≤ w → n < w → x * 2 ^ u % 2 ^ w / 2 / 2 ^ (w - 1 - n) ≡ x / 2 ^ (w - (u + n)) % 2 ^ n
+shifts x u n w h k = two-steps (x * 2 ^ u % 2 ^ w) n w k ∙ shift-field x u n w h

@@ -4,3 +4,4 @@ pub mod Places
 pub mod Callers
 pub mod Widths
 pub mod Stores
+pub mod Parts

@@ -32,6 +32,13 @@ module _ (s : List ℕ) (p : Place) where
   unfolding position
   pos-over h = rw (le-ltb _ _ h)
 
+  -- a place before the end has a byte, and bits of it left
+  pub pos-before : position s p < bitCount s → (p .byte < length s) × (p .used < 8)
+  pos-before h = (
+    ⊎-elim (λ a. a) (λ a. absurd (omega (arith, pos-past a))) (lt-or-le (p .byte) (length s)),
+    ⊎-elim (λ a. a) (λ a. absurd (omega (arith, pos-over a))) (lt-or-le (p .used) 8),
+  )
+
   -- a place stands within the data
   pub pos-le : position s p ≤ bitCount s
   unfolding position

@@ -2,7 +2,7 @@
 use mathlib.Core.Path.{_≡_, refl, sym, ap, _∙_, subst}
 use mathlib.Core.Bool.{Bool, true, false}
 use mathlib.Core.List.{List}
-use Prim.Native.Nat.{ℕ, zero, suc, _-_, _*_, _^_, _≤_, _<_}
+use Prim.Native.Nat.{ℕ, zero, suc, _+_, _-_, _*_, _^_, _≤_, _<_}
 use native.Mathlib.Nat.{zero-add, not-suc-le-zero, lt-of-le-of-lt}
 use native.Mathlib.Omega.{arith}
 use borrow.Author.Tests.{lt-ltb, le-ltb, ltb-true}
@@ -57,6 +57,12 @@ minus-one (suc x) = ap (λ (k : ℕ). negsuc (suc k)) (zero-add x)
 pub less : (a b : ℕ) → a < b → negsuc (b - 1 - a) ≡ pos a -ℤ pos b
 less a zero h = absurd (not-suc-le-zero h)
 less a (suc b) h = rw (lt-ltb a (suc b) h) (ap negsuc (omega arith))
+
+-- how far a - b is from 0
+pub difference : (a b m : ℕ) → a < b + m → b ≤ m → 0 < m → mag (pos a -ℤ pos b) < m
+difference a zero m h k l = omega arith
+difference a (suc b) m h k l =
+    ⊎-elim (λ u. rw (lt-ltb a (suc b) u) (omega arith)) (λ u. rw (le-ltb a (suc b) u) (omega arith)) (lt-or-le a (suc b))
 
 module _ (n v : ℕ) where
   pub sign-below : 2 * v < 2 ^ n → pos v ≡ signedOf n v

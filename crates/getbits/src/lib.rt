@@ -1,9 +1,10 @@
 // The bit reader, by value: a place goes in beside the bytes, and the next place comes back.
 ghost use mathlib.Core.Path.{_≡_};
 ghost use Prim.Native.Nat.{_+_, _-_, _%_, _^_, _<_, _≤_};
+ghost use lib.Dec.{ltb};
 ghost use lib.IntN.{pos, negsuc};
 ghost use lib.ListN.{length, drop};
-ghost use Rattle.getbits.specs.Bits.{settled, runOut, refused, lookAt, getBit, getBits, signedOf, getSbits, bytePos, byteAlign, bitsIf, getFlag, flagIf};
+ghost use Rattle.getbits.specs.Bits.{bitCount, position, settled, runOut, refused, readBits, lookAt, getBit, getBits, signedOf, getSbits, bytePos, byteAlign, bitsIf, getFlag, flagIf};
 
 mod words;
 
@@ -175,6 +176,43 @@ pub fn look_ahead(s: &[u8], p: Place, n: u32) -> u32
         }
     }
     look(s, p, n)
+}
+
+// Are more than n bits left behind a place?
+pub fn more_than(s: &[u8], p: Place, n: u32) -> bool
+    ensures { λ r. ⌜ r ≡ ltb (position (now (s .entry)) p + n) (bitCount (now (s .entry))) ⌝ }
+{
+    if 8 <= p.used {
+        return false;
+    }
+    if s.len() <= p.byte {
+        return false;
+    }
+    (p.used as usize + n as usize) / 8 < s.len() - p.byte
+}
+
+// The place behind n bits, of which no number is made.
+pub fn skip(s: &[u8], p: Place, n: u32) -> Place
+    ensures { λ r. ⌜ r ≡ readBits (now (s .entry)) p n .next ⌝ }
+{
+    if more_than(s, p, n) {
+        let stop = p.used as usize + n as usize;
+        return Place {
+            byte: p.byte + stop / 8,
+            used: (stop % 8) as u32,
+            error: p.error,
+        };
+    }
+    let q = settle(s, p);
+    if (q.used as usize + n as usize + 7) / 8 <= s.len() - q.byte {
+        return Place {
+            byte: s.len(),
+            used: 0,
+            error: p.error,
+        };
+    }
+    let r = exhausted(s);
+    r.next
 }
 
 pub fn get_bits(s: &[u8], p: Place, n: i32) -> Number

@@ -23,12 +23,12 @@ use Rattle.tile_layout.specs.Layout.{parseTileInfo}
 use Rattle.tile_layout.specs.declared.TileArgs.{TileArgs}
 use Rattle.tile_layout.specs.declared.TileInfo.{TileInfo}
 use Rattle.tile_layout.specs.declared.TileRead.{TileRead}
-use Rattle.frame_hdr.specs.Frame.{parseTileInfoFrmhdr}
+use Rattle.frame_layout.specs.Frame.{parseTileInfoFrmhdr}
 use Rattle.frame_hdr.specs.Into.{frameInto, parseTileInfoFrmhdrInto}
-use Rattle.frame_hdr.specs.declared.FrameHeader.{FrameHeader}
+use Rattle.frame_layout.specs.declared.FrameHeader.{FrameHeader}
 use Rattle.frame_hdr.specs.declared.FrameOutcome.{FrameOutcome}
-use Rattle.frame_hdr.specs.declared.FrameRead.{FrameRead}
-use Rattle.frame_hdr.specs.declared.SeqLayout.{SeqLayout}
+use Rattle.frame_layout.specs.declared.FrameRead.{FrameRead}
+use Rattle.frame_layout.specs.declared.SeqLayout.{SeqLayout}
 use Rattle.frame_hdr.proofs.Into.{refused-frame}
 use Rattle.flat.specs.Layout.{Buffers, hasRoom, layoutIn}
 use Rattle.lent_tiles.specs.Calls.{handedTiles, handedFrame, lentTiles, lentFrames}

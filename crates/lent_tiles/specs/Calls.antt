@@ -14,11 +14,11 @@ use Rattle.tile_layout.specs.Layout.{parseTileInfo}
 use Rattle.tile_layout.specs.declared.TileArgs.{TileArgs}
 use Rattle.tile_layout.specs.declared.TileInfo.{TileInfo}
 use Rattle.tile_layout.specs.declared.TileRead.{TileRead}
-use Rattle.frame_hdr.specs.Frame.{isFrameType, frameTypeOf, isPresence, presentOf, parseTileInfoFrmhdr}
+use Rattle.frame_layout.specs.Frame.{isFrameType, frameTypeOf, isPresence, presentOf, parseTileInfoFrmhdr}
 use Rattle.frame_hdr.specs.Into.{frameIn, seqIn}
-use Rattle.frame_hdr.specs.declared.FrameHeader.{FrameHeader}
-use Rattle.frame_hdr.specs.declared.FrameRead.{FrameRead}
-use Rattle.frame_hdr.specs.declared.SeqLayout.{SeqLayout}
+use Rattle.frame_layout.specs.declared.FrameHeader.{FrameHeader}
+use Rattle.frame_layout.specs.declared.FrameRead.{FrameRead}
+use Rattle.frame_layout.specs.declared.SeqLayout.{SeqLayout}
 use Rattle.flat.specs.Layout.{Buffers, hasRoom, putLayout, layoutIn}
 
 -- a layout's answer, handed back over its buffers: after a refusal they are what they were

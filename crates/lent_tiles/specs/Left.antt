@@ -7,9 +7,9 @@ use Rattle.answers.specs.declared.Answer.the-variants.{WrongArguments, ShortBuf
 use Rattle.getbits.specs.Chain.{pick}
 use Rattle.getbits.specs.declared.Place.{Place}
 use Rattle.tile_layout.specs.declared.TileRead.{TileRead}
-use Rattle.frame_hdr.specs.Frame.{withLayout}
-use Rattle.frame_hdr.specs.declared.FrameHeader.{FrameHeader}
-use Rattle.frame_hdr.specs.declared.FrameRead.{FrameRead}
+use Rattle.frame_layout.specs.Frame.{withLayout}
+use Rattle.frame_layout.specs.declared.FrameHeader.{FrameHeader}
+use Rattle.frame_layout.specs.declared.FrameRead.{FrameRead}
 use Rattle.flat.specs.Layout.{Buffers, layoutIn}
 
 -- the answer that has a number

@@ -9,12 +9,12 @@ use answers::is_refusal;
 use answers::number;
 use flat::put_tile_info;
 use flat::tile_info_of;
-use frame_hdr::FrameHeader;
-use frame_hdr::FrameRead;
-use frame_hdr::SeqLayout;
-use frame_hdr::frame_tiles;
-use frame_hdr::frame_type_of;
-use frame_hdr::present_of;
+use frame_layout::FrameHeader;
+use frame_layout::FrameRead;
+use frame_layout::SeqLayout;
+use frame_layout::frame_tiles;
+use frame_layout::frame_type_of;
+use frame_layout::present_of;
 use lent::put_place;
 use tile_layout::TileRead;
 

@@ -4,7 +4,7 @@ use Prim.Native.Nat.{ℕ}
 use Rattle.program.specs.Output.{eitherText}
 use Rattle.tile_layout.specs.Limits.{noTileInfo}
 use Rattle.tile_layout.specs.declared.TileRead.{TileRead}
-use Rattle.frame_hdr.specs.declared.FrameRead.{FrameRead}
+use Rattle.frame_layout.specs.declared.FrameRead.{FrameRead}
 use Rattle.tile_limit.specs.Within.{panel, tilesWithin, frameWithin}
 use Rattle.tile_request.specs.Print.{tileReadText}
 use Rattle.tile_request.specs.Request.{tileRequest}

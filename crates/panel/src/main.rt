@@ -7,7 +7,7 @@ ghost use Rattle.frame_request.specs.Print.{frameReadText};
 ghost use Rattle.program.specs.Output.{chosenText};
 ghost use Rattle.tile_request.specs.Print.{tileReadText};
 ghost use Rattle.panel.specs.Print.{panelTiles, panelFrame, panelText};
-use frame_hdr::FrameRead;
+use frame_layout::FrameRead;
 use frame_request::frame_request;
 use frame_request::given_frame;
 use frame_request::put_frame_read;

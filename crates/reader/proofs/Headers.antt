@@ -6,11 +6,11 @@ use Rattle.seq_record.proofs.SequenceHeader as SX
 use Rattle.seq_record.proofs.SequenceHeader.Laws as SX′
 use Rattle.seq_hdr.specs.declared.SeqRead.{SeqRead}
 use Rattle.seq_hdr.proofs.SeqRead as SR
-use Rattle.frame_hdr.specs.declared.FrameHeader.{FrameHeader}
-use Rattle.frame_hdr.proofs.FrameHeader as FX
-use Rattle.frame_hdr.proofs.FrameHeader.Laws as FX′
-use Rattle.frame_hdr.specs.declared.FrameRead.{FrameRead}
-use Rattle.frame_hdr.proofs.FrameRead as FR
+use Rattle.frame_layout.specs.declared.FrameHeader.{FrameHeader}
+use Rattle.frame_layout.proofs.FrameHeader as FX
+use Rattle.frame_layout.proofs.FrameHeader.Laws as FX′
+use Rattle.frame_layout.specs.declared.FrameRead.{FrameRead}
+use Rattle.frame_layout.proofs.FrameRead as FR
 use Rattle.reader.specs.declared.SeqHdrRead.{SeqHdrRead}
 use Rattle.reader.specs.declared.FrameHdrRead.{FrameHdrRead}
 use Rattle.reader.proofs.SeqHdrRead as SQ

@@ -6,7 +6,7 @@ use denote.Ref.{RefT}
 use Rattle.getbits.specs.declared.Place.{Place}
 use Rattle.getbits.specs.declared.Number.{Number}
 use Rattle.seq_hdr.specs.declared.SeqRead.{SeqRead}
-use Rattle.frame_hdr.specs.declared.FrameRead.{FrameRead}
+use Rattle.frame_layout.specs.declared.FrameRead.{FrameRead}
 use Rattle.reader.specs.declared.GetBits.{GetBits}
 use Rattle.reader.specs.declared.Read.{Read}
 use Rattle.reader.specs.declared.SeqHdrRead.{SeqHdrRead}

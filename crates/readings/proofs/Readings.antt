@@ -19,7 +19,7 @@ use Rattle.seq_residual.specs.Filters.{readRestoration, readFilters}
 use Rattle.seq_hdr.specs.Tiling.{tileInfoIf, readTiling}
 use Rattle.seq_hdr.specs.Header.{readStart, refusedHeader, checkTrailingBits, readGroups, readHead, parseSeqHdr}
 use Rattle.superblocks.specs.Counts.{multiplierOf, fitsUniform}
-use Rattle.frame_hdr.specs.Frame.{startsLow, usableTiles, usable, inFrameDomain, frameCode, reuseAllowed, askReuse, readReuse, reusedStarts, reusedInfo, parseTileInfoFrmhdr}
+use Rattle.frame_layout.specs.Frame.{startsLow, usableTiles, usable, inFrameDomain, frameCode, reuseAllowed, askReuse, readReuse, reusedStarts, reusedInfo, parseTileInfoFrmhdr}
 use Rattle.rectangles.specs.Rectangles.{rising, hasRectangles, each, rectangles, tileRectangles}
 use Rattle.layout_bits.specs.Rows.{bytesOf}
 use Rattle.layout_bits.specs.Bits.{bitsOf, uniformCode, onesCode, logsCode, sizesCode, sidesCode, layoutBits}

@@ -20,11 +20,11 @@ use Rattle.seq_fields.specs.declared.PixelLayout.{PixelLayout}
 use Rattle.seq_fields.specs.declared.PixelLayout.the-variants.{I400}
 use Rattle.seq_hdr.specs.declared.SeqRead.{SeqRead}
 use Rattle.seq_hdr.specs.Header.{parseSeqHdr}
-use Rattle.frame_hdr.specs.Frame.{parseTileInfoFrmhdr}
-use Rattle.frame_hdr.specs.declared.FrameRead.{FrameRead}
-use Rattle.frame_hdr.specs.declared.FrameType.{FrameType}
-use Rattle.frame_hdr.specs.declared.FrameType.the-variants.{Key, Inter}
-use Rattle.frame_hdr.specs.declared.SeqLayout.{SeqLayout}
+use Rattle.frame_layout.specs.Frame.{parseTileInfoFrmhdr}
+use Rattle.frame_layout.specs.declared.FrameRead.{FrameRead}
+use Rattle.frame_layout.specs.declared.FrameType.{FrameType}
+use Rattle.frame_layout.specs.declared.FrameType.the-variants.{Key, Inter}
+use Rattle.frame_layout.specs.declared.SeqLayout.{SeqLayout}
 use Rattle.rectangles.specs.Rectangles.{rectangleNumbers, tileRectangles}
 use Rattle.layout_writing.specs.Write.{writeTileInfo}
 

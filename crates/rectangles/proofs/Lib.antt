@@ -1,5 +1,6 @@
 pub mod Rising
 pub mod Each
+pub mod Four
 pub mod Places
 pub mod Answers
 pub mod Lines

@@ -13,6 +13,7 @@ use lib.ListN.{getD}
 use Rattle.getbits.proofs.Chain.{both}
 use Rattle.getbits.proofs.Places.{lt-or-le}
 use Rattle.tile_layout.specs.Limits.{isSize}
+use Rattle.tile_layout.proofs.Domain.{sized}
 use Rattle.tile_layout.specs.declared.TileInfo.{TileInfo}
 use Rattle.rectangles.specs.Rectangles.{rising, isCount, hasRectangles}
 
@@ -70,6 +71,8 @@ edge-le a b side most h = omega (arith, mul-le-mul-right {m = a} {n = b} side h)
 -- a layout that has rectangles
 pub record Described (t : TileInfo) (code : ℕ) : Type 0 where
   pub small-code : code ≤ 2
+  pub some-cols : 1 ≤ t .cols
+  pub some-rows : 1 ≤ t .rows
   pub most-cols : t .cols ≤ 64
   pub most-rows : t .rows ≤ 64
   pub across : rising (t .«col_start_sb») (t .cols) ≡ true
@@ -82,13 +85,25 @@ described t code w h e =
     let down = both _ (rising (t .«row_start_sb») (t .rows)) (coded .0) in
     let across = both _ (rising (t .«col_start_sb») (t .cols)) (down .0) in
     let counts = both (isCount (t .cols)) (isCount (t .rows)) (across .0) in
+    let cols = both (leb 1 (t .cols)) (leb (t .cols) 64) (counts .0) in
+    let rows = both (leb 1 (t .rows)) (leb (t .rows) 64) (counts .1) in
     record {
       small-code = leb-true code 2 (coded .1);
-      most-cols = leb-true (t .cols) 64 (both (leb 1 (t .cols)) (leb (t .cols) 64) (counts .0) .1);
-      most-rows = leb-true (t .rows) 64 (both (leb 1 (t .rows)) (leb (t .rows) 64) (counts .1) .1);
+      some-cols = leb-true 1 (t .cols) (cols .0);
+      some-rows = leb-true 1 (t .rows) (rows .0);
+      most-cols = leb-true (t .cols) 64 (cols .1);
+      most-rows = leb-true (t .rows) 64 (rows .1);
       across = across .1;
       down = down .1;
     }
+
+-- and its frame
+pub frame-sizes : (t : TileInfo) (code w h : ℕ) → hasRectangles t code w h ≡ true → (w ≤ 65536) × (h ≤ 65536)
+unfolding hasRectangles
+frame-sizes t code w h e =
+    let rest = isCount (t .cols) && isCount (t .rows) && rising (t .«col_start_sb») (t .cols) && rising (t .«row_start_sb») (t .rows) && leb code 2 in
+    let sizes = both (rest && isSize w) (isSize h) e in
+    (sized w (both rest (isSize w) (sizes .0) .1) .1, sized h (sizes .1) .1)
 
 -- 64 columns of 64 rows
 pub tiles-le : (t : TileInfo) (code w h : ℕ) → hasRectangles t code w h ≡ true → t .cols * t .rows ≤ 4096

@@ -16,8 +16,7 @@ use Rattle.tile_layout.specs.Limits.{noTileInfo}
 use Rattle.tile_layout.proofs.Demand3.{demand-3}
 use Rattle.seq_record.specs.declared.SequenceHeader.{SequenceHeader}
 use Rattle.seq_hdr.specs.declared.SeqRead.{SeqRead}
-use Rattle.seq_hdr.specs.declared.TilingRead.{TilingRead}
-use Rattle.seq_hdr.specs.Tiling.{tileInfoIf, readTiling}
+use Rattle.seq_hdr.specs.Tiling.{TilingRead, tileInfoIf, readTiling}
 use Rattle.seq_hdr.specs.Header.{refusedHeader, checkTrailingBits, readHead, withTiling, parseSeqHdr}
 use Rattle.seq_hdr.specs.HeaderLayout.{HasLayout, layoutPlace, layoutArgs, layoutCall, HeaderLayout}
 use Rattle.seq_hdr.proofs.Bounds.{head-in}

@@ -1,4 +1,4 @@
-pub mod Numbers
+pub mod Into
 pub mod Bounds
 pub mod HeaderLayout
 pub mod Refused

@@ -1,4 +1,4 @@
 pub mod Tiling
 pub mod Header
-pub mod Numbers
+pub mod Into
 pub mod HeaderLayout

@@ -3,6 +3,7 @@ use Prim.Native.Nat.{ℕ}
 use mathlib.Core.List.{List}
 use mathlib.Core.Bool.{Bool, true, false}
 use lib.IntN.{pos}
+use Rattle.answers.specs.declared.Answer.{Answer}
 use Rattle.answers.specs.declared.Answer.the-variants.{Accepted}
 use Rattle.getbits.specs.Bits.{getFlag, flagIf}
 use Rattle.getbits.specs.Chain.{pick, then}
@@ -14,7 +15,7 @@ use Rattle.tile_layout.specs.declared.TileRead.{TileRead}
 use Rattle.seq_fields.specs.declared.AdaptiveBoolean.the-variants.{Off, On, Adaptive}
 use Rattle.seq_picture.specs.declared.FrameSize.{FrameSize}
 use Rattle.seq_picture.specs.declared.Level.{Level}
-use Rattle.seq_hdr.specs.declared.TilingRead.{TilingRead}
+use Rattle.seq_record.specs.declared.SeqTiling.{SeqTiling}
 
 -- what the layout is read for: one superblock size, the largest frame, the header's level and tier
 abbrev pub tilingArgs : ℕ → FrameSize → Level → TileArgs
@@ -25,6 +26,12 @@ unfoldable pub tileInfoIf : Bool → ℕ → FrameSize → Level → List ℕ �
 tileInfoIf true sb128 size level s p =
     parseTileInfo s p noTileInfo (tilingArgs sb128 size level)
 tileInfoIf false sb128 size level s p = record { answer = Accepted; info = noTileInfo; next = p }
+
+-- the answer, the tiling and the place after it
+pub record TilingRead : Type 0 where
+  pub answer : Answer
+  pub fields : SeqTiling
+  pub next : Place
 
 -- tiling: Off, or On or Adaptive with a layout
 unfoldable pub readTiling : ℕ → FrameSize → Level → List ℕ → Place → TilingRead

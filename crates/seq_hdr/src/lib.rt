@@ -1,16 +1,23 @@
 // The sequence header.
 ghost use mathlib.Core.Path.{_≡_};
+ghost use mathlib.Core.Bool.{true};
 ghost use lib.Dec.{ltb};
-ghost use Rattle.flat.specs.Layout.{overFront};
-ghost use Rattle.flat_hdr.specs.Header.{flatSeqHdr};
-ghost use Rattle.seq_hdr.specs.Numbers.{HeadPut, HeaderPut, endedHeader, wholeHeader};
-ghost use Rattle.seq_hdr.specs.Tiling.{tileInfoIf, readTiling};
+ghost use Rattle.answers.specs.Numbers.{isRefusal};
+ghost use Rattle.getbits.specs.Chain.{pick};
+ghost use Rattle.flat.specs.Layout.{buffers, hasRoom, putLayout, layoutIn};
+ghost use Rattle.tile_layout.specs.Limits.{noTileInfo};
+ghost use Rattle.seq_hdr.specs.Into.{parseSeqHdrInto, HeadPut, TilingInto, askEnd, endedHeader, readRest, wholeRest};
+ghost use Rattle.seq_hdr.specs.Tiling.{readTiling};
 ghost use Rattle.seq_hdr.specs.HeaderLayout.{HeaderLayout};
-ghost use Rattle.seq_hdr.specs.Header.{readStart, unknownProfile, refusedHeader, checkTrailingBits};
+ghost use Rattle.seq_hdr.specs.Header.{readStart, unknownProfile, refusedHeader};
 ghost use Rattle.seq_hdr.specs.Header.{readGroups, readHead, withTiling, parseSeqHdr};
 use answers::Answer;
 use answers::is_refusal;
 use codes::get_vlc;
+use flat::clear_starts;
+use flat::has_room;
+use flat::put_layout_bytes;
+use flat::tile_info_of;
 use flat_hdr::put_blocks;
 use flat_hdr::put_filters;
 use flat_hdr::put_head;
@@ -21,9 +28,9 @@ use flat_hdr::put_picture;
 use flat_hdr::put_residual;
 use flat_hdr::put_zeros;
 use getbits::Place;
-use getbits::flag_if;
 use getbits::get_flag;
 use seq_blocks::read_blocks;
+use seq_fields::AdaptiveBoolean;
 use seq_fields::adaptive_or;
 use seq_fields::get_small;
 use seq_fields::is_mono;
@@ -42,8 +49,7 @@ use seq_record::Start;
 use seq_record::no_seq_hdr;
 use seq_residual::read_filters;
 use seq_residual::read_residual;
-use tile_info::parse_tile_info;
-use tile_layout::TileRead;
+use tile_info::parse_tile_info_into;
 use tile_layout::no_tile_info;
 
 // The answer, the record, and the place after it.
@@ -53,12 +59,9 @@ pub struct SeqRead {
     pub next: Place,
 }
 
-// What a header is read to: the answer, the record before its tiling, the tiling, the film grain flag, and the place after it.
-pub struct HeaderRead {
+// The answer of a reading into lent buffers, and the place after it.
+pub struct HeaderOutcome {
     pub answer: Answer,
-    pub hdr: SequenceHeader,
-    pub tiling: SeqTiling,
-    pub film_grain_present: bool,
     pub next: Place,
 }
 
@@ -67,15 +70,18 @@ struct StartRead {
     next: Place,
 }
 
-struct TilingRead {
+// The tiling's answer, the layout's presence, and the place after it.
+struct TilingOutcome {
     answer: Answer,
-    fields: SeqTiling,
+    present: AdaptiveBoolean,
     next: Place,
 }
 
-// The answer to the last question, and the place after it.
-struct Ending {
+// What stands behind the record before the tiling, beside the layout: the answer, the layout's presence, the film grain flag, and the place after it.
+struct RestRead {
     answer: Answer,
+    present: AdaptiveBoolean,
+    film_grain_present: bool,
     next: Place,
 }
 
@@ -106,52 +112,67 @@ fn above(n: u32, most: u32) -> bool
     most < n
 }
 
-// The layout of the largest frame.
-fn tile_info_if(
+// The zero layout.
+fn clear_layout(info: &mut [u8], cols: &mut [u16], rows: &mut [u16])
+    requires { ⌜ hasRoom (buffers (now info) (now cols) (now rows)) ≡ true ⌝ }
+    ensures { λ _.
+        let before = buffers (now (info .entry)) (now (cols .entry)) (now (rows .entry)) in
+        let after = buffers (now (info .exit)) (now (cols .exit)) (now (rows .exit)) in
+        ⌜ after ≡ putLayout noTileInfo before ⌝ }
+{
+    put_layout_bytes(&mut *info, false, 0, 0, 0, 0, 0, 0, 0, 0);
+    clear_starts(&mut *cols);
+    clear_starts(&mut *rows);
+}
+
+// The tiling; the layout of the largest frame is read over the zero layout.
+fn read_tiling(
     s: &[u8],
     p: Place,
     sb128: u8,
     size: FrameSize,
     level: Level,
-    cond: bool,
-) -> TileRead
-    ensures { λ r. ⌜ r ≡ tileInfoIf cond sb128 size level (now (s .entry)) p ⌝ }
-{
-    let t = no_tile_info();
-    if cond {
-        return parse_tile_info(
-            s,
-            p,
-            t,
-            1,
-            sb128,
-            sb128,
-            size.max_width,
-            size.max_height,
-            level.level,
-            level.tier,
-        );
-    }
-    TileRead {
-        answer: Answer::Accepted,
-        info: t,
-        next: p,
-    }
-}
-
-fn read_tiling(s: &[u8], p: Place, sb128: u8, size: FrameSize, level: Level) -> TilingRead
-    ensures { λ r. ⌜ r ≡ readTiling sb128 size level (now (s .entry)) p ⌝ }
+    info: &mut [u8],
+    cols: &mut [u16],
+    rows: &mut [u16],
+) -> TilingOutcome
+    requires { ⌜ hasRoom (buffers (now info) (now cols) (now rows)) ≡ true ⌝ }
+    requires { ⌜ putLayout noTileInfo (buffers (now info) (now cols) (now rows)) ≡ buffers (now info) (now cols) (now rows) ⌝ }
+    ensures { λ r.
+        let before = buffers (now (info .entry)) (now (cols .entry)) (now (rows .entry)) in
+        let after = buffers (now (info .exit)) (now (cols .exit)) (now (rows .exit)) in
+        ⌜ TilingInto (readTiling sb128 size level (now (s .entry)) p) before r after ⌝ }
 {
     let present = get_flag(s, p);
-    let adaptive = flag_if(s, present.next, present.value);
-    let t = tile_info_if(s, adaptive.next, sb128, size, level, present.value);
-    let present = adaptive_or(adaptive.value, present.value);
-    let answer = t.answer;
-    let next = t.next;
-    let t = t.info;
-    TilingRead {
+    let next = present.next;
+    if !present.value {
+        return TilingOutcome {
+            answer: Answer::Accepted,
+            present: AdaptiveBoolean::Off,
+            next,
+        };
+    }
+    let adaptive = get_flag(s, next);
+    let r = parse_tile_info_into(
+        s,
+        adaptive.next,
+        &mut *info,
+        &mut *cols,
+        &mut *rows,
+        1,
+        sb128,
+        sb128,
+        size.max_width,
+        size.max_height,
+        level.level,
+        level.tier,
+    );
+    let present = adaptive_or(adaptive.value, true);
+    let answer = r.answer;
+    let next = r.next;
+    TilingOutcome {
         answer,
-        fields: SeqTiling { present, t },
+        present,
         next,
     }
 }
@@ -167,27 +188,18 @@ fn refuse_header(answer: Answer, p: Place) -> SeqRead
     }
 }
 
-// The same before the tiling is put to it.
-fn refuse(answer: Answer, p: Place) -> HeaderRead
-    ensures { λ r. ⌜ wholeHeader r ≡ refusedHeader answer p ⌝ }
+// The last questions: is the reader without error after the film grain flag? And, strict only: after the extension bit, is there a further bit, and is it 1?
+fn check_end(s: &[u8], p: Place, strict: bool) -> HeaderOutcome
+    ensures { λ r. ⌜ ((hdr : SequenceHeader) → askEnd strict hdr (now (s .entry)) p ≡ endedHeader r hdr) ⌝ }
 {
-    let hdr = no_seq_hdr();
-    let tiling = hdr.tiling;
-    HeaderRead {
-        answer,
-        hdr,
-        tiling,
-        film_grain_present: false,
-        next: p,
+    if p.error {
+        return HeaderOutcome {
+            answer: Answer::InvalidSequenceHeader,
+            next: p,
+        };
     }
-}
-
-// Strict only: after the extension bit there is a further bit, and it is 1.
-fn check_trailing_bits(s: &[u8], p: Place, strict: bool) -> Ending
-    ensures { λ r. ⌜ ((hdr : SequenceHeader) → checkTrailingBits strict hdr (now (s .entry)) p ≡ endedHeader r hdr) ⌝ }
-{
     if !strict {
-        return Ending {
+        return HeaderOutcome {
             answer: Answer::Accepted,
             next: p,
         };
@@ -196,12 +208,12 @@ fn check_trailing_bits(s: &[u8], p: Place, strict: bool) -> Ending
     let one = get_flag(s, extension.next);
     let next = one.next;
     if next.error | !one.value {
-        return Ending {
+        return HeaderOutcome {
             answer: Answer::InvalidTrailingBits,
             next,
         };
     }
-    Ending {
+    HeaderOutcome {
         answer: Answer::Accepted,
         next,
     }
@@ -248,20 +260,26 @@ fn read_groups(
     let residual = residual.fields;
     let next = filters.next;
     let filters = filters.fields;
-    let mut hdr = no_seq_hdr();
-    hdr.start = start;
-    hdr.level = level;
-    hdr.format = format;
-    hdr.picture = picture;
-    hdr.blocks = blocks;
-    hdr.motion = motion;
-    hdr.refs = refs;
-    hdr.inter = inter;
-    hdr.residual = residual;
-    hdr.filters = filters;
+    let t = no_tile_info();
     SeqRead {
         answer: Answer::Accepted,
-        hdr,
+        hdr: SequenceHeader {
+            start,
+            level,
+            format,
+            picture,
+            blocks,
+            motion,
+            refs,
+            inter,
+            residual,
+            filters,
+            tiling: SeqTiling {
+                present: AdaptiveBoolean::Off,
+                t,
+            },
+            film_grain_present: false,
+        },
         next,
     }
 }
@@ -303,70 +321,141 @@ fn with_tiling(hdr: SequenceHeader, tiling: SeqTiling, film_grain_present: bool)
     whole
 }
 
-// The header, and its numbers unless it is refused.
-fn read_header(s: &[u8], p: Place, strict: bool, out: &mut [i64]) -> HeaderRead
-    ensures is { λ r. ⌜ wholeHeader r ≡ parseSeqHdr (now (s .entry)) p strict ⌝ }
-    ensures numbers { λ r. ⌜ HeaderPut (now (out .entry)) (wholeHeader r) (now (out .exit)) ⌝ }
+// What stands behind the record before the tiling. A refusal leaves the zero layout.
+fn read_rest(
+    s: &[u8],
+    p: Place,
+    strict: bool,
+    sb128: u8,
+    size: FrameSize,
+    level: Level,
+    info: &mut [u8],
+    cols: &mut [u16],
+    rows: &mut [u16],
+) -> RestRead
+    requires { ⌜ hasRoom (buffers (now info) (now cols) (now rows)) ≡ true ⌝ }
+    requires { ⌜ putLayout noTileInfo (buffers (now info) (now cols) (now rows)) ≡ buffers (now info) (now cols) (now rows) ⌝ }
+    ensures { λ r.
+        let before = buffers (now (info .entry)) (now (cols .entry)) (now (rows .entry)) in
+        let after = buffers (now (info .exit)) (now (cols .exit)) (now (rows .exit)) in
+        let t = readTiling sb128 size level (now (s .entry)) p .fields .t in
+        ⌜ ((hdr : SequenceHeader) → readRest strict sb128 size level hdr (now (s .entry)) p ≡ wholeRest r t hdr)
+        × (after ≡ pick (isRefusal (r .answer)) before (putLayout t before)) ⌝ }
 {
-    let head = read_head(s, p, &mut *out);
-    let answer = head.answer;
-    if is_refusal(answer) {
-        return refuse(answer, head.next);
-    }
-    let hdr = head.hdr;
-    let sb128 = hdr.blocks.partition.sb128;
-    let tiling = read_tiling(s, head.next, sb128, hdr.picture.size, hdr.level);
+    let tiling = read_tiling(s, p, sb128, size, level, &mut *info, &mut *cols, &mut *rows);
     let answer = tiling.answer;
+    let next = tiling.next;
     if is_refusal(answer) {
-        return refuse(Answer::InvalidTileInfo, tiling.next);
+        return RestRead {
+            answer: Answer::InvalidTileInfo,
+            present: AdaptiveBoolean::Off,
+            film_grain_present: false,
+            next,
+        };
     }
-    let grain = get_flag(s, tiling.next);
-    let next = grain.next;
-    if next.error {
-        return refuse(Answer::InvalidSequenceHeader, next);
-    }
-    let end = check_trailing_bits(s, next, strict);
+    let grain = get_flag(s, next);
+    let end = check_end(s, grain.next, strict);
     let answer = end.answer;
     let next = end.next;
     if is_refusal(answer) {
-        return refuse(answer, next);
+        clear_layout(&mut *info, &mut *cols, &mut *rows);
     }
-    let tiling = tiling.fields;
     let present = tiling.present;
-    put_last(&mut *out, present, grain.value);
-    HeaderRead {
+    RestRead {
         answer,
-        hdr,
-        tiling,
+        present,
         film_grain_present: grain.value,
         next,
     }
 }
 
-// The header, and its numbers in a buffer for them. A refused header's are zeros.
-pub fn read_seq_hdr(s: &[u8], p: Place, strict: bool, out: &mut [i64]) -> HeaderRead
-    ensures is { λ r. ⌜ wholeHeader r ≡ parseSeqHdr (now (s .entry)) p strict ⌝ }
-    ensures layout { λ r. ⌜ HeaderLayout (now (s .entry)) p (wholeHeader r) ⌝ }
-    ensures numbers { λ r. ⌜ now (out .exit) ≡ overFront 146 (flatSeqHdr (wholeHeader r .hdr)) (now (out .entry)) ⌝ }
+// parse_seq_hdr into lent buffers: the numbers, and those of the layout. A refused header's are zeros.
+pub fn read_seq_hdr(
+    s: &[u8],
+    p: Place,
+    strict: bool,
+    out: &mut [i64],
+    info: &mut [u8],
+    cols: &mut [u16],
+    rows: &mut [u16],
+) -> HeaderOutcome
+    ensures { λ r.
+        let before = buffers (now (info .entry)) (now (cols .entry)) (now (rows .entry)) in
+        let after = buffers (now (info .exit)) (now (cols .exit)) (now (rows .exit)) in
+        ⌜ (r, now (out .exit), after) ≡ parseSeqHdrInto (now (s .entry)) p strict (now (out .entry)) before ⌝ }
+    ensures { λ _.
+        let before = buffers (now (info .entry)) (now (cols .entry)) (now (rows .entry)) in
+        let after = buffers (now (info .exit)) (now (cols .exit)) (now (rows .exit)) in
+        ⌜ (hasRoom before ≡ true → layoutIn after ≡ parseSeqHdr (now (s .entry)) p strict .hdr .tiling .t) ⌝ }
 {
-    let r = read_header(s, p, strict, &mut *out);
-    let answer = r.answer;
+    if !has_room(&*info, &*cols, &*rows) {
+        return HeaderOutcome {
+            answer: Answer::ShortBuffer,
+            next: p,
+        };
+    }
+    clear_layout(&mut *info, &mut *cols, &mut *rows);
+    let head = read_head(s, p, &mut *out);
+    let answer = head.answer;
+    let next = head.next;
     if is_refusal(answer) {
         put_zeros(&mut *out);
+        return HeaderOutcome { answer, next };
     }
-    r
+    let rest = read_rest(
+        s,
+        next,
+        strict,
+        head.hdr.blocks.partition.sb128,
+        head.hdr.picture.size,
+        head.hdr.level,
+        &mut *info,
+        &mut *cols,
+        &mut *rows,
+    );
+    let answer = rest.answer;
+    let next = rest.next;
+    if is_refusal(answer) {
+        put_zeros(&mut *out);
+        return HeaderOutcome { answer, next };
+    }
+    let present = rest.present;
+    put_last(&mut *out, present, rest.film_grain_present);
+    HeaderOutcome { answer, next }
 }
 
-// The record by value: it lends the numbers a buffer of its own.
+// The record by value: it lends the numbers and the layout buffers of its own.
 pub fn parse_seq_hdr(s: &[u8], p: Place, strict: bool) -> SeqRead
     ensures { λ r. ⌜ r ≡ parseSeqHdr (now (s .entry)) p strict ⌝ }
     ensures { λ r. ⌜ HeaderLayout (now (s .entry)) p r ⌝ }
 {
     let mut numbers = [0i64; 146];
-    let r = read_seq_hdr(s, p, strict, &mut numbers);
-    let answer = r.answer;
-    let tiling = r.tiling;
-    let hdr = with_tiling(r.hdr, tiling, r.film_grain_present);
-    let next = r.next;
+    let head = read_head(s, p, &mut numbers);
+    let answer = head.answer;
+    if is_refusal(answer) {
+        return head;
+    }
+    let mut info = [0u8; 9];
+    let mut cols = [0u16; 65];
+    let mut rows = [0u16; 65];
+    let rest = read_rest(
+        s,
+        head.next,
+        strict,
+        head.hdr.blocks.partition.sb128,
+        head.hdr.picture.size,
+        head.hdr.level,
+        &mut info,
+        &mut cols,
+        &mut rows,
+    );
+    let answer = rest.answer;
+    let next = rest.next;
+    if is_refusal(answer) {
+        return refuse_header(answer, next);
+    }
+    let present = rest.present;
+    let t = tile_info_of(&info, &cols, &rows);
+    let hdr = with_tiling(head.hdr, SeqTiling { present, t }, rest.film_grain_present);
     SeqRead { answer, hdr, next }
 }

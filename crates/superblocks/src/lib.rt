@@ -9,11 +9,8 @@ ghost use Rattle.codes.specs.Codes.{getUniform};
 ghost use Rattle.tile_layout.specs.Limits.{superblocks, tileLog2};
 ghost use Rattle.tile_layout.specs.Layout.{base, count, larger};
 ghost use Rattle.superblocks.specs.Counts.{multiplierOf, sizeOf, fitsUniform};
-use codes::eight_left;
 use codes::get_uniform;
-use codes::uniform_of;
 use getbits::Place;
-use getbits::look_ahead;
 use getbits::power;
 use tile_layout::start_at;
 
@@ -383,23 +380,7 @@ pub fn read_size(s: &[u8], p: Place, rest: FrameSb, limit: FrameSb) -> TileSize
     ensures { λ r. ⌜ (r .size .0 ≡ getUniform (now (s .entry)) p (min (rest .0) (limit .0)) .value + 1)
         × (r .next ≡ getUniform (now (s .entry)) p (min (rest .0) (limit .0)) .next) ⌝ }
 {
-    let max = umin(rest.0, limit.0);
-    // Where eight bytes are left, the size comes out of one word, and the place stays out of memory.
-    if (1 <= max) & (max < 0x8000_0000) {
-        if eight_left(s, p) {
-            let u = uniform_of(look_ahead(s, p, 32), max);
-            let stop = p.used + u.bits;
-            return TileSize {
-                size: FrameSb(u.value + 1),
-                next: Place {
-                    byte: p.byte + (stop / 8) as usize,
-                    used: stop % 8,
-                    error: p.error,
-                },
-            };
-        }
-    }
-    let g = get_uniform(s, p, max);
+    let g = get_uniform(s, p, umin(rest.0, limit.0));
     let next = g.next;
     TileSize {
         size: FrameSb(g.value + 1),

@@ -15,9 +15,13 @@ use Rattle.lent.proofs.Calls.{pair}
 use Rattle.tile_layout.specs.declared.TileArgs.{TileArgs}
 use Rattle.tile_layout.specs.declared.TileInfo.{TileInfo}
 use Rattle.tile_layout.specs.declared.TileRead.{TileRead}
+use Rattle.tile_layout.specs.Cleared.{ReadOver}
+use Rattle.tile_layout.specs.Demand3.{Demand3}
+use Rattle.tile_layout.specs.Limits.{inDomain}
 use Rattle.tile_layout.specs.Layout as layout
 use Rattle.tile_layout.specs.Layout.{startsFrom, nonUniformEdges, padded, invalidTileInfo, parseTileInfo}
 use Rattle.tile_layout.proofs.Cleared.{read-over}
+use Rattle.tile_layout.proofs.Demand3.{demand-3}
 use Rattle.tile_layout.proofs.Laws.{padded-length}
 use Rattle.tile_layout.proofs.Sized.{length-starts}
 use Rattle.flat.specs.Layout.{overFront, Buffers, buffers, hasRoom, putLayout, startsIn, layoutIn}
@@ -89,22 +93,30 @@ module _ (z : TileRead) (b : Buffers) {r : TileOutcome} {after : Buffers} (w : S
       ∙ sym (taken _ _ _ h))
 
 -- a layout that went into buffers and comes back from them
-pub whole-read : (s : List ℕ) (p : Place) (old : TileInfo) (a : TileArgs) (b : Buffers) {r : TileOutcome} {after : Buffers} → hasRoom b ≡ true → layoutIn b ≡ old
-    → (r, after) ≡ parseTileInfoInto s p b a
-    → (hasRoom b ≡ true → isRefusal (r .answer) ≡ false → layoutIn after ≡ parseTileInfo s p (layoutIn b) a .info)
-    → record { answer = r .answer; info = layoutIn after; next = r .next } ≡ parseTileInfo s p old a
-unfolding parseTileInfoInto
-whole-read s p old a b {r} {after} has holds e back = rw (outcome, info (isRefusal (z .answer)) refl) refl
-  where
-    z : TileRead
-    z = parseTileInfo s p old a
+module _ (s : List ℕ) (p : Place) (old : TileInfo) (a : TileArgs) (b : Buffers) (has : hasRoom b ≡ true) (holds : layoutIn b ≡ old) where
+  pub whole-read : {a' : TileArgs} {r : TileOutcome} {after : Buffers} {i : TileInfo} → (r, after) ≡ parseTileInfoInto s p b a'
+      → (hasRoom b ≡ true → isRefusal (r .answer) ≡ false → layoutIn after ≡ parseTileInfo s p (layoutIn b) a' .info)
+      → a' ≡ a → i ≡ layoutIn after → record { answer = r .answer; info = i; next = r .next } ≡ parseTileInfo s p old a
+  unfolding parseTileInfoInto
+  whole-read {a'} {r} {after} {i} e back same is =
+      ap (λ (t : TileInfo). record { answer = r .answer; info = t; next = r .next }) is
+      ∙ rw (outcome, info (isRefusal (z .answer)) refl) refl
+      ∙ ap (parseTileInfo s p old) same
+    where
+      z : TileRead
+      z = parseTileInfo s p old a'
 
-    put : (r, after) ≡ readInto (parseTileInfo s p old a) b
-    put = e ∙ taken _ _ _ has ∙ ap (λ (t : TileInfo). readInto (parseTileInfo s p t a) b) holds
+      put : (r, after) ≡ readInto (parseTileInfo s p old a') b
+      put = e ∙ taken _ _ _ has ∙ ap (λ (t : TileInfo). readInto (parseTileInfo s p t a') b) holds
 
-    outcome : r ≡ record { answer = z .answer; next = z .next }
-    outcome = ap (λ (x : TileOutcome × Buffers). x .0) put
+      outcome : r ≡ record { answer = z .answer; next = z .next }
+      outcome = ap (λ (x : TileOutcome × Buffers). x .0) put
 
-    info : (t : Bool) → isRefusal (z .answer) ≡ t → layoutIn after ≡ z .info
-    info true h = ap layoutIn (ap (λ (x : TileOutcome × Buffers). x .1) put ∙ taken _ _ _ h) ∙ holds ∙ sym (read-over s p old a .kept h)
-    info false h = back has (ap (λ (x : TileOutcome). isRefusal (x .answer)) outcome ∙ h) ∙ ap (λ (t : TileInfo). parseTileInfo s p t a .info) holds
+      info : (t : Bool) → isRefusal (z .answer) ≡ t → layoutIn after ≡ z .info
+      info true h = ap layoutIn (ap (λ (x : TileOutcome × Buffers). x .1) put ∙ taken _ _ _ h) ∙ holds ∙ sym (read-over s p old a' .kept h)
+      info false h = back has (ap (λ (x : TileOutcome). isRefusal (x .answer)) outcome ∙ h) ∙ ap (λ (t : TileInfo). parseTileInfo s p t a' .info) holds
+
+-- and what is promised of it
+pub promised : (s : List ℕ) (p : Place) (old : TileInfo) (a : TileArgs) {r : TileRead} → r ≡ parseTileInfo s p old a
+    → (r ≡ parseTileInfo s p old a) × ((inDomain a ≡ true → Demand3 s p a r) × ReadOver old r)
+promised s p old a e = (e, rw e (demand-3 s p old a, read-over s p old a))

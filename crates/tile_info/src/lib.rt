@@ -1,6 +1,7 @@
 // The tile layout of a frame.
 ghost use mathlib.Core.Path.{_≡_};
 ghost use mathlib.Core.Bool.{true, false};
+ghost use lib.ListN.{replicate};
 ghost use Rattle.answers.specs.Numbers.{isRefusal};
 ghost use Rattle.answers.specs.declared.Answer.the-variants.{InvalidTileInfo};
 ghost use Rattle.getbits.specs.Bits.{lookAt, getFlag};
@@ -9,7 +10,7 @@ ghost use Rattle.tile_layout.specs.Limits.{argsOf, inDomain, sbw, sbh, widthLim
 ghost use Rattle.tile_layout.specs.Layout.{rowLimit, uniformLayout, nonUniformLayout, parseTileInfo};
 ghost use Rattle.tile_layout.specs.Demand3.{Demand3};
 ghost use Rattle.tile_layout.specs.Cleared.{ReadOver};
-ghost use Rattle.flat.specs.Layout.{buffers, hasRoom, putLayout, layoutIn};
+ghost use Rattle.flat.specs.Layout.{buffers, hasRoom, putLayout, startsIn, layoutIn};
 ghost use Rattle.tile_info.specs.Inner.{Known, SizedInto};
 ghost use Rattle.tile_info.specs.Into.{readInto, parseTileInfoInto};
 use answers::Answer;
@@ -22,7 +23,7 @@ use flat::starts_in;
 use flat::tile_info_of;
 use getbits::Place;
 use getbits::get_bit;
-use getbits::look;
+use getbits::look_ahead;
 use getbits::read_bits;
 use superblocks::FrameSb;
 use tile_layout::TileArgs;
@@ -189,6 +190,16 @@ fn read_nonuniform(
     }
 }
 
+// The starts, if they are needed.
+fn old_starts(starts: &[u16], needed: bool) -> [u16; 65]
+    ensures { λ r. ⌜ r ≡ pick needed (startsIn (now (starts .entry))) (replicate 65 0) ⌝ }
+{
+    if needed {
+        return starts_in(starts);
+    }
+    [0u16; 65]
+}
+
 // The same, and a refusal keeps the buffers. With at most 64 superblocks across and down none is refused, and there is nothing to keep.
 fn nonuniform_layout(
     s: &[u8],
@@ -207,11 +218,9 @@ fn nonuniform_layout(
         let after = buffers (now (info .exit)) (now (cols .exit)) (now (rows .exit)) in
         ⌜ (r, after) ≡ readInto (nonUniformLayout (now (s .entry)) p (layoutIn before) a) before ⌝ }
 {
-    if k.sbw.at_most_64() & k.sbh.at_most_64() {
-        return read_nonuniform(s, p, a, k, &mut *info, &mut *cols, &mut *rows);
-    }
-    let old_cols = starts_in(&*cols);
-    let old_rows = starts_in(&*rows);
+    let may_refuse = !(k.sbw.at_most_64() & k.sbh.at_most_64());
+    let old_cols = old_starts(&*cols, may_refuse);
+    let old_rows = old_starts(&*rows, may_refuse);
     let r = read_nonuniform(s, p, a, k, &mut *info, &mut *cols, &mut *rows);
     let answer = r.answer;
     if is_refusal(answer) {
@@ -238,7 +247,7 @@ fn read_layout(
         ⌜ (r, after) ≡ readInto (parseTileInfo (now (s .entry)) p (layoutIn before) a) before ⌝ }
 {
     let k = frame_limits(a);
-    let word = look(s, p, 32);
+    let word = look_ahead(s, p, 32);
     if 0x8000_0000 <= word {
         let next = uniform_layout(s, p, word, a, k, &mut *info, &mut *cols, &mut *rows);
         return TileOutcome {

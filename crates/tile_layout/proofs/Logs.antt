@@ -6,16 +6,13 @@ use Prim.Native.Nat.{ℕ, zero, suc, _+_, _-_, _*_, _^_, _≤_, _<_}
 use native.Mathlib.Nat.{mul-one, mul-assoc, mul-comm, pow-suc, mul-le-mul-left, mul-le-mul-right, mul-lt-mul-of-pos-right, lt-of-lt-of-le}
 use native.Mathlib.Numerals.{add-one}
 use native.Mathlib.Omega.{arith}
-use lib.Dec.{ltb, eqb}
+use lib.Dec.{ltb}
 use lib.Pow.{pow-add, pow-mono, pow-pos}
 use borrow.Author.Tests.{ltb-false, le-ltb}
-use Rattle.getbits.specs.Bits.{getBit}
-use Rattle.getbits.specs.Chain.{then}
-use Rattle.getbits.specs.declared.Number.{Number}
 use Rattle.getbits.specs.declared.Place.{Place}
 use Rattle.getbits.proofs.Chain.{picked}
 use Rattle.getbits.proofs.Places.{lt-or-le}
-use Rattle.codes.specs.Codes.{plus, runOf}
+use Rattle.codes.proofs.Runs.{run-le}
 use Rattle.tile_layout.specs.Limits.{doublings}
 use Rattle.tile_layout.specs.Layout.{readLog2}
 
@@ -93,15 +90,6 @@ module _ (a b sz tgt : ℕ) (under : sz < 2 ^ a) (top : 2 ^ a ≤ 2 * sz + 1) (t
             (λ l. omega (arith, least 20 sz tgt (suc k) r))
             (λ l. absurd (omega (arith, less k e, reached, mul-le-mul-left sz (pow-mono l))))
             (lt-or-le k (doublings 20 sz tgt))
-
--- a run is no longer than it may be
-pub run-le : (bit k : ℕ) (s : List ℕ) (p : Place) → runOf bit k s p .value ≤ k
-unfolding runOf then
-run-le bit zero s p = omega arith
-run-le bit (suc k) s p =
-    picked (λ (r : Number). r .value ≤ suc k) (eqb (getBit s p .value) bit) (plus 1 (runOf bit k s (getBit s p .next))) (record { value = 0; next = getBit s p .next })
-    (λ e. omega (arith, run-le bit k s (getBit s p .next)))
-    (λ e. omega arith)
 
 pub log-read : (s : List ℕ) (p : Place) (lo hi : ℕ) → (lo ≤ readLog2 s p lo hi .value) × (readLog2 s p lo hi .value ≤ lo + (hi - lo))
 unfolding readLog2

@@ -20,11 +20,11 @@ use Rattle.tile_layout.proofs.Cleared.{refused-over, read-over}
 use Rattle.tile_layout.specs.declared.TileArgs.{TileArgs}
 use Rattle.tile_layout.specs.declared.TileInfo.{TileInfo}
 use Rattle.tile_layout.specs.declared.TileRead.{TileRead}
-use Rattle.frame_hdr.specs.Frame.{parseTileInfoFrmhdr, frameTiles}
-use Rattle.frame_hdr.specs.declared.FrameHeader.{FrameHeader}
-use Rattle.frame_hdr.specs.declared.FrameRead.{FrameRead}
-use Rattle.frame_hdr.specs.declared.SeqLayout.{SeqLayout}
-use Rattle.frame_hdr.proofs.Cleared.{frame-over}
+use Rattle.frame_layout.specs.Frame.{parseTileInfoFrmhdr, frameTiles}
+use Rattle.frame_layout.specs.declared.FrameHeader.{FrameHeader}
+use Rattle.frame_layout.specs.declared.FrameRead.{FrameRead}
+use Rattle.frame_layout.specs.declared.SeqLayout.{SeqLayout}
+use Rattle.frame_layout.proofs.Cleared.{frame-over}
 use Rattle.tile_limit.specs.Promises.{Over, Limited, LimitedTiles, FreshAccepted, LimitedFrame}
 use Rattle.tile_limit.specs.Within.{wall, isTooMany, tilesWithin, frameWithin, parseTileInfoWithin, parseTileInfoFrmhdrWithin}
 use Rattle.tile_limit.specs.declared.TileLimit.{TileLimit}

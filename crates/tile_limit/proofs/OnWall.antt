@@ -17,12 +17,12 @@ use Rattle.tile_layout.specs.declared.TileArgs.{TileArgs}
 use Rattle.tile_layout.specs.declared.TileInfo.{TileInfo}
 use Rattle.tile_layout.specs.declared.TileRead.{TileRead}
 use Rattle.tile_layout.proofs.Demand3.{all-accepted}
-use Rattle.frame_hdr.specs.Frame.{inFrameDomain, readReuse, reuseAllowed, askReuse, reusedInfo, frameArgs, freshLayout, parseTileInfoFrmhdr, frameTiles}
-use Rattle.frame_hdr.specs.declared.FrameHeader.{FrameHeader}
-use Rattle.frame_hdr.specs.declared.FrameRead.{FrameRead}
-use Rattle.frame_hdr.specs.declared.SeqLayout.{SeqLayout}
-use Rattle.frame_hdr.proofs.Fresh.{fresh-demand-3}
-use Rattle.frame_hdr.proofs.Usable.{Tiled, usable-tiles, frame-usable, allowed-only, reused-tiled}
+use Rattle.frame_layout.specs.Frame.{inFrameDomain, readReuse, reuseAllowed, askReuse, reusedInfo, frameArgs, freshLayout, parseTileInfoFrmhdr, frameTiles}
+use Rattle.frame_layout.specs.declared.FrameHeader.{FrameHeader}
+use Rattle.frame_layout.specs.declared.FrameRead.{FrameRead}
+use Rattle.frame_layout.specs.declared.SeqLayout.{SeqLayout}
+use Rattle.frame_layout.proofs.Fresh.{fresh-demand-3}
+use Rattle.frame_layout.proofs.Usable.{Tiled, usable-tiles, frame-usable, allowed-only, reused-tiled}
 use Rattle.tile_limit.specs.Promises.{FreshAccepted}
 
 -- the wall accepts at most 64 columns and 64 rows, and never answers 6

@@ -12,10 +12,10 @@ use Rattle.tile_layout.specs.Layout.{parseTileInfo}
 use Rattle.tile_layout.specs.declared.TileArgs.{TileArgs}
 use Rattle.tile_layout.specs.declared.TileInfo.{TileInfo}
 use Rattle.tile_layout.specs.declared.TileRead.{TileRead}
-use Rattle.frame_hdr.specs.Frame.{readReuse, frameArgs, frameTiles, parseTileInfoFrmhdr}
-use Rattle.frame_hdr.specs.declared.FrameHeader.{FrameHeader}
-use Rattle.frame_hdr.specs.declared.FrameRead.{FrameRead}
-use Rattle.frame_hdr.specs.declared.SeqLayout.{SeqLayout}
+use Rattle.frame_layout.specs.Frame.{readReuse, frameArgs, frameTiles, parseTileInfoFrmhdr}
+use Rattle.frame_layout.specs.declared.FrameHeader.{FrameHeader}
+use Rattle.frame_layout.specs.declared.FrameRead.{FrameRead}
+use Rattle.frame_layout.specs.declared.SeqLayout.{SeqLayout}
 use Rattle.tile_limit.specs.Within.{wall}
 use Rattle.tile_limit.specs.declared.TileLimit.{TileLimit}
 

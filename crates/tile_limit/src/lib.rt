@@ -1,17 +1,17 @@
 // Layouts for a viewer that can show only so many columns and rows.
 ghost use mathlib.Core.Path.{_≡_};
 ghost use Rattle.tile_layout.specs.Limits.{argsOf};
-ghost use Rattle.frame_hdr.specs.Sequence.{seqLayout};
+ghost use Rattle.frame_layout.specs.Sequence.{seqLayout};
 ghost use Rattle.tile_limit.specs.Promises.{LimitedTiles, LimitedFrame};
 ghost use Rattle.tile_limit.specs.Within.{wall, panel, isOver, isTooMany, tilesWithin, frameWithin, parseTileInfoWithin, parseTileInfoFrmhdrWithin};
 use answers::Answer;
 use answers::is_refusal;
-use frame_hdr::FrameHeader;
-use frame_hdr::FrameRead;
-use frame_hdr::SeqLayout;
 use frame_hdr::frame_layout;
-use frame_hdr::frame_tiles;
 use frame_hdr::parse_tile_info_frmhdr;
+use frame_layout::FrameHeader;
+use frame_layout::FrameRead;
+use frame_layout::SeqLayout;
+use frame_layout::frame_tiles;
 use getbits::Place;
 use seq_record::SequenceHeader;
 use tile_info::parse_tile_info;

@@ -1,4 +1,4 @@
-//! Finds the five static libraries of the proved reader, or has them proved, and tells cargo to link them.
+//! Finds the six static libraries of the proved reader, or has them proved, and tells cargo to link them.
 //!
 //! They are taken from the folder that `MUBANLIG_LIB_DIR` names; else from `target/staticlib` of the project, where
 //! `rt staticlib` proves and writes them if they are missing or older than the sources. What is linked is a copy that
@@ -19,26 +19,29 @@ use std::{env, process};
 const INTERFACE: u32 = 3;
 
 /// The crates, the libraries made of them, and the function before the interface's number.
-const NAMES: [&str; 5] = [
+const NAMES: [&str; 6] = [
     "capi_bits",
     "capi",
+    "capi_tiles",
+    "capi_frame",
     "capi_within",
     "capi_grain",
-    "capi_write",
 ];
-const LIBRARIES: [&str; 5] = [
+const LIBRARIES: [&str; 6] = [
     "libcapi_bits.a",
     "libcapi.a",
+    "libcapi_tiles.a",
+    "libcapi_frame.a",
     "libcapi_within.a",
     "libcapi_grain.a",
-    "libcapi_write.a",
 ];
-const MARKS: [&str; 5] = [
+const MARKS: [&str; 6] = [
     "mubanlig_bits_interface_",
     "mubanlig_interface_",
+    "mubanlig_tiles_interface_",
+    "mubanlig_frame_interface_",
     "mubanlig_within_interface_",
     "mubanlig_grain_interface_",
-    "mubanlig_write_interface_",
 ];
 
 fn main() {
@@ -90,7 +93,7 @@ fn link() -> Result<(), String> {
 fn take_named(folder: &Path, root: Option<&Path>, linked: &Path) -> Result<(), String> {
     copy(folder, linked).map_err(|why| {
         format!(
-            "{} names {}: {why}; name a folder to which `rt staticlib` wrote all five, or unset it",
+            "{} names {}: {why}; name a folder to which `rt staticlib` wrote all six, or unset it",
             settings::FOLDER,
             folder.display()
         )
@@ -121,7 +124,7 @@ fn take_proved(root: &Path, linked: &Path) -> Result<(), String> {
         if let Err(e) = &lock {
             return Err(format!(
                 "{} has to be proved and written, and the project's folder can't be written ({e}): \
-                 make it writable, or set {} to a folder with the five libraries",
+                 make it writable, or set {} to a folder with the six libraries",
                 library.display(),
                 settings::FOLDER
             ));

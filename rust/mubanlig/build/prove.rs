@@ -66,7 +66,7 @@ pub fn staticlib(root: &Path, name: &str, screen: &mut Screen) -> Result<(), Str
         )),
         Err(e) if e.kind() == io::ErrorKind::NotFound => Err(format!(
             "Rattle's command `rt` is not on the path, and it has to prove the library {name} of {}: \
-             put `rt` on the path, or set MUBANLIG_LIB_DIR to a folder with the five libraries",
+             put `rt` on the path, or set MUBANLIG_LIB_DIR to a folder with the six libraries",
             root.display()
         )),
         Err(e) => Err(format!("`rt staticlib {name}` could not be run: {e}")),

@@ -3,7 +3,7 @@
 use std::ffi::OsStr;
 use std::path::{Path, PathBuf};
 
-/// The variable that names a folder with the five libraries.
+/// The variable that names a folder with the six libraries.
 pub const FOLDER: &str = "MUBANLIG_LIB_DIR";
 
 /// The folder that the variable names, if it is set.
@@ -12,7 +12,7 @@ pub fn named_folder(value: Option<&OsStr>) -> Result<Option<PathBuf>, String> {
     let folder = Path::new(value);
     if value.is_empty() {
         return Err(format!(
-            "{FOLDER} is set and empty: unset it, or name the folder with the five libraries"
+            "{FOLDER} is set and empty: unset it, or name the folder with the six libraries"
         ));
     }
     if folder.is_relative() {

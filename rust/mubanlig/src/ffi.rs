@@ -103,6 +103,8 @@ unsafe extern "C" {
 
     #[cfg(test)]
     fn mubanlig_interface_3() -> u32;
+    #[cfg(test)]
+    fn mubanlig_write_interface_3() -> u32;
     fn mubanlig_parse_seg_info(
         s: *const u8,
         s_len: usize,
@@ -114,6 +116,42 @@ unsafe extern "C" {
         masks_len: usize,
         ext: u8,
     ) -> u32;
+    fn mubanlig_parse_seq_hdr(
+        s: *const u8,
+        s_len: usize,
+        position: *mut usize,
+        error: *mut u8,
+        strict: u8,
+        hdr: *mut i64,
+        hdr_len: usize,
+        info: *mut u8,
+        info_len: usize,
+        col_start_sb: *mut u16,
+        col_start_sb_len: usize,
+        row_start_sb: *mut u16,
+        row_start_sb_len: usize,
+    ) -> u32;
+    fn mubanlig_write_tile_info(
+        info: *const u8,
+        info_len: usize,
+        col_start_sb: *const u16,
+        col_start_sb_len: usize,
+        row_start_sb: *const u16,
+        row_start_sb_len: usize,
+        sbmul: i32,
+        sb128: u8,
+        seq_sb128: u8,
+        w: i32,
+        h: i32,
+        level: u8,
+        tier: u8,
+        out: *mut u8,
+        out_len: usize,
+        bits: *mut u32,
+    ) -> u32;
+
+    #[cfg(test)]
+    fn mubanlig_tiles_interface_3() -> u32;
     fn mubanlig_parse_tile_info(
         s: *const u8,
         s_len: usize,
@@ -133,21 +171,22 @@ unsafe extern "C" {
         level: u8,
         tier: u8,
     ) -> u32;
-    fn mubanlig_parse_seq_hdr(
-        s: *const u8,
-        s_len: usize,
-        position: *mut usize,
-        error: *mut u8,
-        strict: u8,
-        hdr: *mut i64,
-        hdr_len: usize,
-        info: *mut u8,
+    fn mubanlig_tile_rectangles(
+        info: *const u8,
         info_len: usize,
-        col_start_sb: *mut u16,
+        col_start_sb: *const u16,
         col_start_sb_len: usize,
-        row_start_sb: *mut u16,
+        row_start_sb: *const u16,
         row_start_sb_len: usize,
+        sb128: u8,
+        w: i32,
+        h: i32,
+        out: *mut u32,
+        out_len: usize,
     ) -> u32;
+
+    #[cfg(test)]
+    fn mubanlig_frame_interface_3() -> u32;
     fn mubanlig_parse_tile_info_frmhdr(
         s: *const u8,
         s_len: usize,
@@ -175,19 +214,6 @@ unsafe extern "C" {
         seq_col_start_sb_len: usize,
         seq_row_start_sb: *const u16,
         seq_row_start_sb_len: usize,
-    ) -> u32;
-    fn mubanlig_tile_rectangles(
-        info: *const u8,
-        info_len: usize,
-        col_start_sb: *const u16,
-        col_start_sb_len: usize,
-        row_start_sb: *const u16,
-        row_start_sb_len: usize,
-        sb128: u8,
-        w: i32,
-        h: i32,
-        out: *mut u32,
-        out_len: usize,
     ) -> u32;
 
     #[cfg(test)]
@@ -254,27 +280,6 @@ unsafe extern "C" {
         layout: u8,
         fgd: *mut i16,
         fgd_len: usize,
-    ) -> u32;
-
-    #[cfg(test)]
-    fn mubanlig_write_interface_3() -> u32;
-    fn mubanlig_write_tile_info(
-        info: *const u8,
-        info_len: usize,
-        col_start_sb: *const u16,
-        col_start_sb_len: usize,
-        row_start_sb: *const u16,
-        row_start_sb_len: usize,
-        sbmul: i32,
-        sb128: u8,
-        seq_sb128: u8,
-        w: i32,
-        h: i32,
-        level: u8,
-        tier: u8,
-        out: *mut u8,
-        out_len: usize,
-        bits: *mut u32,
     ) -> u32;
 }
 

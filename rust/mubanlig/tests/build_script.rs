@@ -35,9 +35,11 @@ fn the_libraries_are_whole_and_of_the_interface() {
     for (name, mark) in [
         ("libcapi_bits.a", "mubanlig_bits_interface_"),
         ("libcapi.a", MARK),
+        ("libcapi.a", "mubanlig_write_interface_"),
+        ("libcapi_tiles.a", "mubanlig_tiles_interface_"),
+        ("libcapi_frame.a", "mubanlig_frame_interface_"),
         ("libcapi_within.a", "mubanlig_within_interface_"),
         ("libcapi_grain.a", "mubanlig_grain_interface_"),
-        ("libcapi_write.a", "mubanlig_write_interface_"),
     ] {
         let path = Path::new(env!("MUBANLIG_LIBRARIES")).join(name);
         assert_eq!(check(&fs::read(path).unwrap(), mark, 3), Ok(()), "{name}");
@@ -50,9 +52,10 @@ fn another_interface_is_said() {
     assert_eq!(fault.to_string(), "has interface 2, and this crate needs 3");
     for mark in [
         "mubanlig_bits_interface_",
+        "mubanlig_tiles_interface_",
+        "mubanlig_frame_interface_",
         "mubanlig_within_interface_",
         "mubanlig_grain_interface_",
-        "mubanlig_write_interface_",
     ] {
         let fault = check(&library(), mark, 3).unwrap_err();
         assert_eq!(fault, Fault::NoInterface { needed: 3 });

@@ -37,9 +37,10 @@ fn compiled(variable: &str, default: &str, language: [&str; 3]) -> Option<PathBu
             env!("MUBANLIG_LIBRARIES"),
             "-lcapi_bits",
             "-lcapi",
+            "-lcapi_tiles",
+            "-lcapi_frame",
             "-lcapi_within",
             "-lcapi_grain",
-            "-lcapi_write",
             "-o",
         ])
         .arg(&program)

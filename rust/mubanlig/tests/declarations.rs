@@ -26,9 +26,10 @@ fn exports() -> Vec<Export> {
     for name in [
         "capi_bits",
         "capi",
+        "capi_tiles",
+        "capi_frame",
         "capi_within",
         "capi_grain",
-        "capi_write",
     ] {
         for entry in fs::read_dir(root().join("crates").join(name).join("src")).unwrap() {
             let source = read(&entry.unwrap().path());

@@ -1,24 +1,35 @@
 -- `capi::mubanlig_parse_seq_hdr` meets its contract. Assumes nothing.
 use mathlib.Core.Bool.{true}
-use mathlib.Core.Path.{_≡_, refl, sym, _∙_}
+use mathlib.Core.List.{List}
+use mathlib.Core.Path.{_≡_, refl, sym, ap, _∙_}
 use borrow.Author.Needs.{needs}
 use borrow.Author.Tests.{le-leb, lt-leb, not-true, not-false}
 use lib.Dec.{leb}
+use lib.IntN.{ℤ}
 use lib.ListN.{length}
+use Rattle.answers.specs.Numbers.{numberOf}
 use Rattle.getbits.proofs.Chain.{through, taken, left, both-hold}
+use Rattle.getbits.specs.declared.Place.{Place}
 use Rattle.flat.specs.Layout.{Buffers, buffers, hasRoom}
 use Rattle.capi.specs.Calls.{lentHeader}
 use Rattle.lent.specs.Lent.{isSet, placeOf}
-use Rattle.seq_hdr.proofs.Refused.{Refused, header-refused}
-use Rattle.seq_hdr.specs.Numbers.{wholeHeader}
+use Rattle.lent.specs.Calls.{answered}
+use Rattle.seq_hdr.proofs.HeaderLayout.{header-layout}
+use Rattle.seq_hdr.proofs.Refused.{header-refused}
+use Rattle.seq_hdr.specs.Header.{parseSeqHdr}
+use Rattle.seq_hdr.specs.Into.{parseSeqHdrInto}
+use Rattle.seq_hdr.specs.declared.HeaderOutcome.{HeaderOutcome}
 use Rattle.lent.proofs.Calls.{row, triple, first-fails, second-fails}
 use Rattle.capi.proofs.Left.{never-5, header-read, header-left}
 use Rattle.capi.proofs.mubanlig_parse_seq_hdr.Statement.{statement}
 use Rattle.capi.proofs.mubanlig_parse_seq_hdr.Tie as tie
 
--- the buffers lent
+-- the buffers lent, and the place
 abbrev given : tie.Start → Buffers
 given s = buffers (s .args .info .now) (s .args .col-start-sb .now) (s .args .row-start-sb .now)
+
+abbrev place : tie.Start → Place
+place s = placeOf (s .args .position .now) (s .args .error .now)
 
 returns : tie.Need-returns
 unfolding lentHeader
@@ -36,27 +47,26 @@ returns-2 c =
     (sym (left _ _ _ fails), (λ _. refl, (λ _. refl, (λ _. refl, (λ _. refl, (λ _ h. never-5 h, (λ _ h. never-5 h, (λ _ h. never-5 h, (λ _ h. never-5 h, λ h. absurd (h refl))))))))))
 
 returns-3 : tie.Need-returns-3
-unfolding lentHeader
+unfolding lentHeader parseSeqHdrInto
 returns-3 c =
-    let t = c .before .before .before .before .before .before .before in
-    let q = t .before .before .before .before in
-    let r = q .before .before .before .before in
-    let p = r .before .before .before in
+    let r = c .before .before .before .before .before .before .before .before .before .before .before in
+    let p = r .before .before .before .before .before .before in
     let k = p .before .before .before in
     let i = k .before .before .before .before .before in
     let s = i .before .before .before .before .before in
     let a = s .args in
-    let x = wholeHeader (r .read-seq-hdr .result) in
-    let put = t .put-tile-info .ensures in
-    let numbers = r .read-seq-hdr .ensures .1 .1 in
+    let x = r .read-seq-hdr .result in
+    let z = parseSeqHdr (a .s .now) (place s) (isSet (a .strict)) in
     let has : hasRoom (given s) ≡ true = sym (k .before .has-room .ensures) ∙ not-false (k .before .has-room .result) (k .if2 .left) in
-    let read = rw (p .place-of .ensures, r .before .before .is-set .ensures) at (r .read-seq-hdr .ensures .0) in
-    let layout = rw (p .place-of .ensures) at (r .read-seq-hdr .ensures .1 .0) in
+    let into = rw (p .place-of .ensures, r .before .before .before .before .before .is-set .ensures) at (r .read-seq-hdr .ensures) in
+    let read = into .0 ∙ taken _ _ _ has ∙ through _ _ refl in
+    let number = c .number .ensures ∙ ap (λ (y : HeaderOutcome × List ℤ × Buffers). numberOf (y .0 .answer)) read in
     let long = le-leb 146 (length (a .hdr .now)) (i .if1 .left) in
-    let room = both-hold long has in
-    let answer : Refused x = rw read (header-refused (a .s .now) (placeOf (a .position .now) (a .error .now)) (isSet (a .strict))) in
-    let w = header-read x (c .number .result) (a .hdr .now) (given s) (c .number .ensures) answer long has numbers (put .0) in (
-      triple (row (x .answer) (x .next) (a .error .now) (c .number .ensures) (q .put-place .ensures)) numbers (put .0) ∙ sym (taken _ _ _ room ∙ through _ _ read),
+    let w = header-read z (c .number .result) (a .hdr .now) (given s) number (header-refused (a .s .now) (place s) (isSet (a .strict))) long has
+    (ap (λ (y : HeaderOutcome × List ℤ × Buffers). y .1) read) (ap (λ (y : HeaderOutcome × List ℤ × Buffers). y .2) read) in (
+      triple (row (x .answer) (x .next) (a .error .now) (c .number .ensures) (c .before .put-place .ensures)) refl refl
+          ∙ ap (λ (y : HeaderOutcome × List ℤ × Buffers). (answered (y .0 .answer) (y .0 .next) (a .error .now), y .1, y .2)) read
+          ∙ sym (taken _ _ _ (both-hold long has) ∙ through _ _ refl),
       (
         λ e. absurd (w .not-5 e),
         (
@@ -65,7 +75,7 @@ returns-3 c =
             λ e. absurd (w .not-5 e),
             (
               λ e. absurd (w .not-5 e),
-              (λ e _. w .numbers e, (λ e _. w .bytes e, (λ e _. w .col-starts e, (λ e _. w .row-starts e, λ _. header-left x (c .number .result) _ (c .number .ensures) (put .1 has) layout)))),
+              (λ e _. w .numbers e, (λ e _. w .bytes e, (λ e _. w .col-starts e, (λ e _. w .row-starts e, λ _. header-left z (c .number .result) _ number (into .1 has) (header-layout (a .s .now) (place s) (isSet (a .strict))))))),
             ),
           ),
         ),
@@ -87,9 +97,8 @@ mubanlig-parse-seq-hdr-spec =
     (λ c κs. search needs)
     (λ c κs. search needs)
     (λ c κs. search needs)
-    (λ c κs. search needs)
-    (λ c. search needs)
-    (λ c. search needs)
-    (λ c. search needs)
-    (λ c. search needs)
+    (λ c. c .before .before .before .before .before .before .before .before .before .before .hdr .given)
+    (λ c. c .before .before .before .before .before .before .before .before .before .info .given)
+    (λ c. c .before .before .before .before .before .before .before .col-start-sb .given)
+    (λ c. c .before .before .before .before .before .row-start-sb .given)
     returns-3)

@@ -12,9 +12,9 @@ use Rattle.getbits.proofs.Chain.{contrary, through, taken, left, both, both-hol
 use Rattle.getbits.specs.declared.Number.{Number}
 use Rattle.getbits.specs.declared.Place.{Place}
 use Rattle.lent.specs.Lent.{placeOf}
-use Rattle.frame_hdr.specs.Frame.{frameTiles}
-use Rattle.frame_hdr.specs.declared.FrameHeader.{FrameHeader}
-use Rattle.frame_hdr.specs.declared.SeqLayout.{SeqLayout}
+use Rattle.frame_layout.specs.Frame.{frameTiles}
+use Rattle.frame_layout.specs.declared.FrameHeader.{FrameHeader}
+use Rattle.frame_layout.specs.declared.SeqLayout.{SeqLayout}
 use Rattle.flat.specs.Layout.{Buffers, buffers, hasRoom}
 use Rattle.lent.specs.Calls.{answered}
 use Rattle.lent_tiles.specs.Calls.{handedFrame, isKnown, frameGiven, seqGiven, lentFrames, lentFrame}

@@ -1,140 +1,65 @@
 -- `codes::get_uniform` meets its contract. Assumes nothing.
-use mathlib.Core.List.{List}
-use mathlib.Core.Path.{_≡_, refl, _∙_, sym, ap}
-use Prim.Native.Nat.{ℕ, _+_, _-_, _*_, _^_, _≤_, _<_}
+use mathlib.Core.Path.{_≡_, refl, _∙_, ap}
+use Prim.Native.Nat.{_+_, _*_, _≤_, _<_}
 use native.Mathlib.Omega.{arith}
-use borrow.Author.Tests.{lt-ltb, le-ltb, le-leb, lt-leb}
+use borrow.Author.Tests.{leb-true, ltb-true}
 use borrow.Author.Needs.{needs}
-use lib.IntN.{pos}
-use lib.Dec.{ltb}
+use lib.Dec.{leb, ltb}
+use lib.ListN.{length}
 use Rattle.codes.specs.Codes.{getUniform}
-use Rattle.getbits.proofs.Callers.{as-read, read-none, read-lt, bit-lt}
-use Rattle.getbits.proofs.Chain.{through, taken, left}
+use Rattle.getbits.specs.Bits.{bitsAt, bitCount, position, readBits}
 use Rattle.getbits.specs.declared.Number.{Number}
-use Rattle.getbits.specs.declared.Place.{Place}
-use Rattle.getbits.specs.Bits.{getBit, getBits}
-use Rattle.getbits.specs.Chain.{pick, then}
-use Rattle.codes.proofs.Callers.{length-at, eight-there}
+use Rattle.getbits.proofs.Chain.{both}
+use Rattle.getbits.proofs.Places.{settled-in, read-at}
+use Rattle.codes.proofs.Callers.{eight-there}
 use Rattle.codes.proofs.get_uniform.Statement.{statement}
 use Rattle.codes.proofs.get_uniform.Tie as tie
 
--- behind the two first questions
-module _ (c : tie.After-uniform-forms) where
-  abbrev s : List ℕ
-  s = c .before .before .before .before .before .before .args .s .now
+-- the word holds the number
+module _ (u : tie.After-uniform-of) where
+  abbrev t : tie.Then1
+  t = u .before .before .before .before
 
-  abbrev p : Place
-  p = c .before .before .before .before .before .before .args .p
+  abbrev x : tie.Start
+  x = t .before .before
 
-  abbrev max : ℕ
-  max = c .before .before .before .before .before .before .args .max
+  there : (x .args .p .used < 8) × (x .args .p .byte + 8 ≤ length (x .args .s .now)) × (position (x .args .s .now) (x .args .p) + 32 ≤ bitCount (x .args .s .now))
+  there = eight-there (x .args .s .now) (x .args .p) (u .before .before .before .eight-left .ensures) (u .before .before .if2 .taken)
 
-  abbrev l : ℕ
-  l = c .uniform-forms .result .bits
+  read : let z = getUniform (x .args .s .now) (x .args .p) (x .args .max) in let r = u .uniform-of .result in
+      (r .value ≡ z .value) × (readBits (x .args .s .now) (x .args .p) (r .bits) .next ≡ z .next)
+  read =
+      let m = x .args .max in
+      let fit = both (leb 1 m) (ltb m 2147483648) (t .if1 .taken) in
+      u .uniform-of .ensures .0 (x .args .s .now) (x .args .p) (u .before .look-ahead .ensures) (there .2) (leb-true 1 m (fit .0)) (ltb-true m 2147483648 (fit .1))
 
-  abbrev m : ℕ
-  m = c .uniform-forms .result .short
+add-stop : tie.Need-add-stop
+add-stop c = omega (arith, there (c .before .before) .0, c .before .before .uniform-of .ensures .1)
 
-  -- l is the bit length, and m counts the shorter form's numbers
-  forms : (1 ≤ l) × (l < 32) × (2 ^ (l - 1) ≤ max) × (m ≡ 2 ^ l - max)
-  forms =
-      let e = c .uniform-forms .ensures .0 in
-      let is = length-at max l e (omega arith) (omega arith) in
-      (is .0, is .1, is .3, c .uniform-forms .ensures .1 ∙ ap (λ (x : ℕ). 2 ^ x - max) (sym e))
-
-  -- with l - 1 bits read
-  module _ (r : Number) (e : r ≡ getBits s p (pos (l - 1))) where
-    value-lt : (r .value < 2 ^ (l - 1)) × (2 ^ (l - 1) ≤ max)
-    value-lt = (omega (arith, read-lt s p (l - 1), ap (λ (x : Number). x .value) (as-read s p (l - 1) (omega (arith, forms .1)) e)), forms .2)
-
-    behind : getUniform s p max ≡ pick (ltb (r .value) m) r (then (getBit s (r .next)) λ b. record { value = 2 * r .value - m + b .value; next = b .next })
-    unfolding getUniform
-    behind =
-        left _ _ _ (lt-leb max 1 (omega arith))
-        ∙ left _ _ _ (lt-leb (2 ^ 31) max (omega arith))
-        ∙ through _ _ (c .uniform-forms .ensures .0)
-        ∙ through _ _ (forms .3)
-        ∙ through _ _ (as-read s p (l - 1) (omega (arith, forms .1)) e)
-
-    short : r .value < m → r ≡ getUniform s p max
-    short h = sym (behind ∙ taken _ _ _ (lt-ltb (r .value) m h))
-
-    long : (b : Number) → b ≡ getBit s (r .next) → m ≤ r .value → record { value = 2 * r .value - m + b .value; next = b .next } ≡ getUniform s p max
-    long b f h = sym (behind ∙ left _ _ _ (le-ltb (r .value) m h) ∙ through _ _ f)
+add-t12 : tie.Need-add-t12
+add-t12 c = omega (arith, there (c .before .before .before) .0, there (c .before .before .before) .1, c .before .before .before .uniform-of .ensures .1)
 
 returns : tie.Need-returns
-unfolding getUniform
 returns c =
-    let a = c .before .before .before .args in
-    as-read (a .s .now) (a .p) 0 (omega arith) (c .read-bits .ensures) ∙ read-none (a .s .now) (a .p) ∙ sym (taken _ _ _ (le-leb (a .max) 1 (search needs)))
-
-returns-2 : tie.Need-returns-2
-unfolding getUniform
-returns-2 c =
-    let a = c .before .before .before .before .args in
-    c .refuse .ensures ∙ sym (left _ _ _ (lt-leb (a .max) 1 (search needs)) ∙ taken _ _ _ (le-leb (2 ^ 31) (a .max) (search needs)))
-
-returns-3 : tie.Need-returns-3
-returns-3 c =
-    let r = c .before in
-    let u = r .before in
-    let w = u .before in
-    let e = w .before .before in
-    let a = e .before .before .before .before .args in
-    let there = eight-there (a .s .now) (a .p) (e .eight-left .ensures) (w .before .if3 .taken) in
-    let z = u .uniform-of .ensures .0 (a .s .now) (a .p) (w .look-ahead .ensures) (there .2) (omega arith) (omega arith) in
-    let n = ap (λ (x : Number). x .next) (as-read (a .s .now) (a .p) (u .uniform-of .result .bits) (u .uniform-of .ensures .1) (r .read-bits2 .ensures)) ∙ z .1 in
-    rw (z .0, n) refl
-
--- as the definition has it, since the bits may run out
-sub-read-bits : tie.Need-sub-read-bits
-sub-read-bits c = forms c .0
-
-returns-4 : tie.Need-returns-4
-returns-4 c =
-    let k = c .before .before in
-    short (k .before) (k .read-bits3 .result) (k .read-bits3 .ensures) (search needs)
-
-mul-t18 : tie.Need-mul-t18
-mul-t18 c =
-    let k = c .before .before .before .before in
-    let a = k .before in
-    let v = value-lt a (k .read-bits3 .result) (k .read-bits3 .ensures) in
-    omega (arith, v .0, v .1, a .before)
-
-add-t20 : tie.Need-add-t20
-add-t20 c =
-    let k = c .before .before .before .before .before in
-    let a = k .before in
-    let b = c .before .before .get-bit in
-    let v = value-lt a (k .read-bits3 .result) (k .read-bits3 .ensures) in
-    omega (arith, v .0, v .1, bit-lt (s a) (k .read-bits3 .result .next), ap (λ (x : Number). x .value) (b .ensures), a .before)
-
-returns-5 : tie.Need-returns-5
-returns-5 c =
-    let k = c .before .before .before .before .before in
-    let b = c .before .before .get-bit in
-    long (k .before) (k .read-bits3 .result) (k .read-bits3 .ensures) (b .result) (b .ensures) (search needs)
+    let u = c .before .before .before in
+    let s = x u .args .s .now in
+    let p = x u .args .p in
+    let h = there u in
+    let n = u .uniform-of .result .bits in
+    let e = read-at s p p n {v = bitsAt s (8 * p .byte + p .used) n} (settled-in s p (omega (arith, h .1)) (h .0)) (omega (arith, h .0, h .1, u .uniform-of .ensures .1)) refl in
+    let next = ap (λ (r : Number). r .next) e ∙ read u .1 in
+    rw (read u .0, next) refl
 
 pub get-uniform-spec : {M : Type 1} → statement M
 get-uniform-spec =
     tie.close
     (tie.spec
     (λ c κs. search needs)
+    (λ c κs. search needs)
+    (λ c κs. search needs)
+    add-stop
+    (λ c. search needs)
+    add-t12
     returns
     (λ c κs. search needs)
-    returns-2
-    (λ c κs. search needs)
-    (λ c κs. search needs)
-    (λ c κs. search needs)
-    (λ c κs. search needs)
-    returns-3
-    (λ c κs. search needs)
-    sub-read-bits
-    (λ c κs. search needs)
-    returns-4
-    (λ c κs. search needs)
-    mul-t18
-    (λ c. search needs)
-    add-t20
-    returns-5)
+    (λ c. search needs))

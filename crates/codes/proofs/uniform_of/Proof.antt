@@ -5,12 +5,12 @@ use mathlib.Core.Path.{_≡_, refl, _∙_, sym, ap}
 use Prim.Native.Nat.{ℕ, _+_, _-_, _*_, _/_, _^_, _≤_, _<_}
 use native.Mathlib.Nat.{div-le-self, lt-of-le-of-lt}
 use native.Mathlib.Omega.{arith}
-use borrow.Author.Tests.{lt-ltb, le-ltb, le-leb, lt-leb}
+use borrow.Author.Tests.{lt-ltb, le-ltb, le-leb}
 use borrow.Author.Needs.{needs}
 use lib.Count.{leadingZeros}
 use lib.Dec.{ltb}
 use Rattle.codes.specs.Codes.{bitLength, getUniform}
-use Rattle.codes.proofs.Callers.{length-at}
+use Rattle.codes.proofs.Callers.{length-at, uniform-more}
 use Rattle.getbits.proofs.Callers.{read-none, read-more, bit-lt}
 use Rattle.getbits.proofs.Chain.{through, taken, left}
 use Rattle.getbits.proofs.Fields.{bits-top}
@@ -53,13 +53,7 @@ module _ (s : List ℕ) (p : Place) (word max l m : ℕ) (el : l ≡ bitLength m
   half = omega (arith, more .0, bit-lt s (most .next))
 
   behind : getUniform s p max ≡ pick (ltb (most .value) m) most (then last λ b. record { value = 2 * most .value - m + b .value; next = b .next })
-  unfolding getUniform
-  behind =
-      left _ _ _ (lt-leb max 1 (omega arith))
-      ∙ left _ _ _ (lt-leb (2 ^ 31) max low)
-      ∙ through _ _ el
-      ∙ through _ _ (em ∙ ap (λ (n : ℕ). 2 ^ n - max) (sym el))
-      ∙ through _ _ refl
+  behind = uniform-more s p max l m el em some low ∙ through _ _ refl
 
   short : x / 2 < m → (x / 2 ≡ getUniform s p max .value) × (readBits s p (l - 1) .next ≡ getUniform s p max .next)
   short h =

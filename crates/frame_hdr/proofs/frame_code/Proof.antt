@@ -3,7 +3,7 @@ use mathlib.Core.Path.{sym, _∙_}
 use borrow.Author.Needs.{needs}
 use borrow.Author.Tests.{eq-eqb, ne-eqb}
 use Rattle.getbits.proofs.Chain.{taken, left}
-use Rattle.frame_hdr.specs.Frame.{frameCode}
+use Rattle.frame_layout.specs.Frame.{frameCode}
 use Rattle.frame_hdr.proofs.frame_code.Statement.{statement}
 use Rattle.frame_hdr.proofs.frame_code.Tie as tie
 

@@ -1,14 +1,11 @@
 -- `frame_hdr::frame_layout` meets its contract. Assumes nothing.
-use mathlib.Core.Path.{refl, sym, _∙_, ap, subst}
+use mathlib.Core.Path.{refl, _∙_, ap}
 use borrow.Author.Needs.{needs}
 use Rattle.getbits.proofs.Chain.{both-hold}
 use Rattle.getbits.proofs.Widths.{back}
 use Rattle.flat.specs.Layout.{hasRoom}
 use Rattle.flat.proofs.Room.{put-room}
 use Rattle.tile_layout.proofs.Lengths.{cols-length, rows-length}
-use Rattle.frame_hdr.specs.Frame.{withLayout, FrameLayout}
-use Rattle.frame_hdr.specs.declared.FrameHeader.{FrameHeader}
-use Rattle.frame_hdr.proofs.Cleared.{frame-promised}
 use Rattle.frame_hdr.proofs.Into.{whole-frame}
 use Rattle.frame_hdr.proofs.frame_layout.Statement.{statement}
 use Rattle.frame_hdr.proofs.frame_layout.Tie as tie
@@ -31,13 +28,13 @@ returns c =
     let has = both-hold
     (ap hasRoom (own .0) ∙ put-room (h .tiling) _ (cols-length (h .tiling) _ good) (rows-length (h .tiling) _ good) refl)
     (ap hasRoom (theirs .0) ∙ put-room (q .t) _ (cols-length (q .t) _ seq-good) (rows-length (q .t) _ seq-good) refl) in
-    let into = rw (back (h .width) (y .struct-told .given .1 .0 .1), back (h .height) (x .before .before .struct-told2 .given .1 .1 .0 .1), back (q .«max_width») (x .before .struct-told3 .given .1 .0 .1), back (q .«max_height») (x .struct-told4 .given .1 .1 .0 .1)) at (r .frame-layout-into .ensures) in
-    let read = whole-frame (k .s .now) (k .p) h q _ _ has (own .1 refl) (theirs .1 refl) (into .0) (into .1) in
-    let e =
-    ap (λ (x : FrameHeader). record { answer = r .frame-layout-into .result .answer; hdr = x; next = r .frame-layout-into .result .next })
-    (c .with-layout .ensures ∙ ap (withLayout h (r .frame-layout-into .result .sb128)) (c .before .tile-info-of .ensures))
-    ∙ read in
-    (e, subst (FrameLayout (k .s .now) (k .p) h q) (sym e) (frame-promised (k .s .now) (k .p) h q))
+    whole-frame (k .s .now) (k .p) h q _ _ has (own .1 refl) (theirs .1 refl) (r .frame-layout-into .ensures)
+    (back (h .width) (y .struct-told .given .1 .0 .1))
+    (back (h .height) (x .before .before .struct-told2 .given .1 .1 .0 .1))
+    (back (q .«max_width») (x .before .struct-told3 .given .1 .0 .1))
+    (back (q .«max_height») (x .struct-told4 .given .1 .1 .0 .1))
+    (c .before .tile-info-of .ensures)
+    (c .with-layout .ensures)
 
 pub frame-layout-spec : {M : Type 1} → statement M
 frame-layout-spec =

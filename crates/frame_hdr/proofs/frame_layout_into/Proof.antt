@@ -18,13 +18,13 @@ use Rattle.flat.specs.Layout.{Buffers, buffers, hasRoom}
 use Rattle.flat.proofs.Room.{Room, room}
 use Rattle.tile_layout.specs.Limits.{inDomain}
 use Rattle.tile_layout.specs.declared.TileArgs.{TileArgs}
-use Rattle.frame_hdr.specs.Frame.{inFrameDomain, usable, frameArgs, readReuse, reuseAllowed, parseTileInfoFrmhdr}
+use Rattle.frame_layout.specs.Frame.{inFrameDomain, usable, frameArgs, readReuse, reuseAllowed, parseTileInfoFrmhdr}
 use Rattle.frame_hdr.specs.Into.{frameIn, seqIn, frameInto, parseTileInfoFrmhdrInto}
-use Rattle.frame_hdr.specs.declared.FrameHeader.{FrameHeader}
-use Rattle.frame_hdr.specs.declared.FrameRead.{FrameRead}
-use Rattle.frame_hdr.specs.declared.SeqLayout.{SeqLayout}
+use Rattle.frame_layout.specs.declared.FrameHeader.{FrameHeader}
+use Rattle.frame_layout.specs.declared.FrameRead.{FrameRead}
+use Rattle.frame_layout.specs.declared.SeqLayout.{SeqLayout}
 use Rattle.frame_hdr.proofs.Into.{Held, held, allowed-in, fresh-into, frame-back}
-use Rattle.frame_hdr.proofs.Usable.{Tiled, known, usable-tiles, frame-usable, frame-in-domain, allowed-only, reused-tiled}
+use Rattle.frame_layout.proofs.Usable.{Tiled, known, usable-tiles, frame-usable, frame-in-domain, allowed-only, reused-tiled}
 use Rattle.frame_hdr.proofs.frame_layout_into.Statement.{statement}
 use Rattle.frame_hdr.proofs.frame_layout_into.Tie as tie
 

@@ -4,9 +4,9 @@ use Prim.Native.Nat.{ℕ, _+_}
 use native.Mathlib.Omega.{arith}
 use borrow.Author.Needs.{needs}
 use lib.ListN.{getD}
-use Rattle.frame_hdr.specs.declared.FrameType.{FrameType}
+use Rattle.frame_layout.specs.declared.FrameType.{FrameType}
 use Rattle.program.specs.Input.{twoAt}
-use Rattle.frame_hdr.specs.Frame.{frameTypeOf}
+use Rattle.frame_layout.specs.Frame.{frameTypeOf}
 use Rattle.frame_request.specs.Request.{frameOf, frameAt}
 use Rattle.frame_request.proofs.given_frame.Statement.{statement}
 use Rattle.frame_request.proofs.given_frame.Tie as tie

@@ -2,7 +2,7 @@
 use mathlib.Core.Bool.{false}
 use mathlib.Core.Path.{ap}
 use borrow.Author.Needs.{needs}
-use Rattle.frame_hdr.specs.declared.FrameHeader.{FrameHeader}
+use Rattle.frame_layout.specs.declared.FrameHeader.{FrameHeader}
 use Rattle.getbits.specs.Bits.{placeAt}
 use Rattle.frame_request.proofs.no_frame.Statement.{statement}
 use Rattle.frame_request.proofs.no_frame.Tie as tie

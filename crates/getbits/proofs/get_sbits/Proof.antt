@@ -33,8 +33,10 @@ returns c =
     let g = c .before .before .before .get-bits in
     let a = c .before .before .before .before .before in
     let e = rw (toZ-ofZ (a .fits .n)) at (g .ensures) in
-    ap (λ (z : ℤ). record { value = z; next = g .result .next }) (sign-zero (natAbs (a .args .n)) ∙ ap (signedOf (natAbs (a .args .n))) (sym (c .if1 .taken)))
-    ∙ ap (signed (natAbs (a .args .n))) e
+    let n = natAbs (a .args .n) in
+    _∙_ {b = signed n (g .result)}
+    (ap (λ (z : ℤ). record { value = z; next = g .result .next }) (sign-zero n ∙ ap (signedOf n) (sym (c .if1 .taken))))
+    (ap (signed n) e)
 
 cast-sign : tie.Need-cast-sign
 cast-sign c =
@@ -52,9 +54,10 @@ returns-2 c =
     let g = c .before .before .before .before .get-bits in
     let a = c .before .before .before .before .before .before in
     let e = rw (toZ-ofZ (a .fits .n)) at (g .ensures) in
-    ap (λ (z : ℤ). record { value = z; next = g .result .next })
-    (back (c .sign .result) (c .sign .ok) ∙ rw (toZ-ofZ (a .fits .n)) at (c .sign .ensures))
-    ∙ ap (signed (natAbs (a .args .n))) e
+    let n = natAbs (a .args .n) in
+    _∙_ {b = signed n (g .result)}
+    (ap (λ (z : ℤ). record { value = z; next = g .result .next }) (back (c .sign .result) (c .sign .ok) ∙ rw (toZ-ofZ (a .fits .n)) at (c .sign .ensures)))
+    (ap (signed n) e)
 
 pub get-sbits-spec : {M : Type 1} → statement M
 get-sbits-spec = tie.close (tie.spec (λ c κs. search needs) returns cast-sign sign-requires returns-2)

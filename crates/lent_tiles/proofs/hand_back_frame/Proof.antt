@@ -8,9 +8,9 @@ use Rattle.answers.proofs.Numbers.{accepted-by-0, refused-unless-0}
 use Rattle.answers.specs.Numbers.{isRefusal}
 use Rattle.getbits.proofs.Chain.{taken, left}
 use Rattle.flat.specs.Layout.{Buffers, hasRoom, layoutIn}
-use Rattle.frame_hdr.specs.Frame.{frameTiles}
+use Rattle.frame_layout.specs.Frame.{frameTiles}
 use Rattle.tile_layout.specs.declared.TileRead.{TileRead}
-use Rattle.frame_hdr.specs.declared.FrameRead.{FrameRead}
+use Rattle.frame_layout.specs.declared.FrameRead.{FrameRead}
 use Rattle.lent_tiles.specs.Calls.{handedTiles, handedFrame}
 use Rattle.lent.proofs.Calls.{triple}
 use Rattle.lent_tiles.proofs.Left.{tiles-number}

@@ -1,7 +1,8 @@
 -- `rects::put_tile` meets its contract. Assumes nothing.
 use borrow.Author.Needs.{needs}
 use Rattle.text.proofs.Puts.{also}
-use Rattle.rects.proofs.Tiles.{four, in-parts}
+use Rattle.rectangles.proofs.Four.{four}
+use Rattle.rects.proofs.Tiles.{in-parts}
 use Rattle.rects.proofs.put_tile.Statement.{statement}
 use Rattle.rects.proofs.put_tile.Tie as tie
 

@@ -7,7 +7,7 @@ use Rattle.getbits.proofs.Chain.{through, taken, left}
 use Rattle.flat_hdr.specs.Rows.{PutIn}
 use Rattle.flat_hdr.proofs.Rows.{and-then, put-under}
 use Rattle.seq_hdr.specs.Header.{readGroups}
-use Rattle.seq_hdr.proofs.Numbers.{head-not-put}
+use Rattle.seq_hdr.proofs.Into.{head-not-put}
 use Rattle.seq_hdr.proofs.read_groups.Statement.{statement}
 use Rattle.seq_hdr.proofs.read_groups.Tie as tie
 
@@ -55,7 +55,7 @@ answers =
                 ∙ through _ _ (r .read-residual .ensures)
                 ∙ through _ _ refl
                 ∙ through _ _ (f .read-filters .ensures)
-                ∙ sym (simp (c .no-seq-hdr .ensures))),
+                ∙ sym (simp (c .no-tile-info .ensures))),
             record { stands = λ _. w; behind = put-under w (omega arith) },
           ),
     )

@@ -4,7 +4,7 @@ use borrow.Author.Needs.{needs}
 use Rattle.answers.specs.declared.Answer.the-variants.{InvalidSequenceHeader}
 use Rattle.getbits.proofs.Chain.{through, taken, left}
 use Rattle.seq_hdr.specs.Header.{readHead}
-use Rattle.seq_hdr.proofs.Numbers.{head-not-put}
+use Rattle.seq_hdr.proofs.Into.{head-not-put}
 use Rattle.seq_hdr.proofs.read_head.Statement.{statement}
 use Rattle.seq_hdr.proofs.read_head.Tie as tie
 

@@ -5,11 +5,8 @@ use mir.Facts.{toZ-ofZ}
 use Rattle.flat.specs.Layout.{hasRoom}
 use Rattle.flat.proofs.Room.{put-room}
 use Rattle.tile_layout.specs.Limits.{argsOf}
-use Rattle.tile_layout.specs.declared.TileInfo.{TileInfo}
-use Rattle.tile_layout.proofs.Cleared.{read-over}
-use Rattle.tile_layout.proofs.Demand3.{demand-3}
 use Rattle.tile_layout.proofs.Lengths.{cols-length, rows-length}
-use Rattle.tile_info.proofs.Into.{whole-read}
+use Rattle.tile_info.proofs.Into.{whole-read, promised}
 use Rattle.tile_info.proofs.parse_tile_info.Statement.{statement}
 use Rattle.tile_info.proofs.parse_tile_info.Tie as tie
 
@@ -24,10 +21,9 @@ returns c =
     let put = p .put-tile-info .ensures in
     let a = argsOf (k .sbmul) (k .sb128) (k .seq-sb128) (k .w) (k .h) (k .level) (k .tier) in
     let has = ap hasRoom (put .0) ∙ put-room t _ (cols-length t _ (s .good .1 .1 .0)) (rows-length t _ (s .good .1 .1 .0)) refl in
-    let into = rw (toZ-ofZ (f .sbmul), toZ-ofZ (f .w), toZ-ofZ (f .h)) at (r .parse-tile-info-into .ensures) in
-    let read = whole-read (k .s .now) (k .p) t a _ has (put .1 refl) (into .0) (into .1) in
-    let e = ap (λ (i : TileInfo). record { answer = r .parse-tile-info-into .result .answer; info = i; next = r .parse-tile-info-into .result .next }) (c .tile-info-of .ensures) ∙ read in
-    (e, rw e (demand-3 (k .s .now) (k .p) t a, read-over (k .s .now) (k .p) t a))
+    let into = r .parse-tile-info-into .ensures in
+    promised (k .s .now) (k .p) t a
+    (whole-read (k .s .now) (k .p) t a _ has (put .1 refl) (into .0) (into .1) (rw (toZ-ofZ (f .sbmul), toZ-ofZ (f .w), toZ-ofZ (f .h)) refl) (c .tile-info-of .ensures))
 
 pub parse-tile-info-spec : {M : Type 1} → statement M
 parse-tile-info-spec =

@@ -51,7 +51,7 @@ uniform-layout-requires c κs =
     let t = c .before .before .before in
     let k = t .before .before in
     let s = k .before .before .before .before .before in
-    (s .pre .0, (k .frame-limits .ensures, (t .before .look .ensures, s .pre .1)))
+    (s .pre .0, (k .frame-limits .ensures, (t .before .look-ahead .ensures, s .pre .1)))
 
 returns : tie.Need-returns
 returns c =
@@ -59,7 +59,7 @@ returns c =
     let t = u .before .before .before .before in
     let s = t .before .before .before .before .before .before .before in
     let a = s .args in
-    let flag = flag-set (a .s .now) (a .p) (t .before .look .result) (t .before .look .ensures) (t .if1 .taken) in
+    let flag = flag-set (a .s .now) (a .p) (t .before .look-ahead .result) (t .before .look-ahead .ensures) (t .if1 .taken) in
     accepted (a .s .now) _ (a .a) (given s) (u .uniform-layout .ensures)
     ∙ ap (λ (z : TileRead). readInto z (given s)) (sym (uniform (a .s .now) (a .p) (layoutIn (given s)) (a .a) (s .pre .0) flag))
 
@@ -77,7 +77,7 @@ returns-2 c =
     let e = g .before in
     let s = e .before .before .before .before .before .before .before in
     let a = s .args in
-    let flag = flag-unset (a .s .now) (a .p) (e .before .look .result) (e .before .look .ensures) (e .if1 .left) in
+    let flag = flag-unset (a .s .now) (a .p) (e .before .look-ahead .result) (e .before .look-ahead .ensures) (e .if1 .left) in
     u .nonuniform-layout .ensures
     ∙ ap (λ (q : Place). readInto (nonUniformLayout (a .s .now) q (layoutIn (given s)) (a .a)) (given s)) (behind (a .s .now) (a .p) (g .get-bit .result) (g .get-bit .ensures))
     ∙ ap (λ (z : TileRead). readInto z (given s)) (sym (non-uniform (a .s .now) (a .p) (layoutIn (given s)) (a .a) (s .pre .0) flag))

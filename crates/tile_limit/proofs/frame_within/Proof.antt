@@ -2,7 +2,7 @@
 use mathlib.Core.Path.{_≡_, sym, _∙_, ap}
 use borrow.Author.Needs.{needs}
 use Rattle.getbits.proofs.Chain.{taken, left}
-use Rattle.frame_hdr.specs.Frame.{frameTiles}
+use Rattle.frame_layout.specs.Frame.{frameTiles}
 use Rattle.tile_limit.specs.Within.{isTooMany, frameWithin}
 use Rattle.tile_limit.proofs.frame_within.Statement.{statement}
 use Rattle.tile_limit.proofs.frame_within.Tie as tie

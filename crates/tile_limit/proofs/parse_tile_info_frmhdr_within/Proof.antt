@@ -1,7 +1,7 @@
 -- `tile_limit::parse_tile_info_frmhdr_within` meets its contract. Assumes nothing.
 use mathlib.Core.Path.{sym, _∙_, ap, subst}
 use borrow.Author.Needs.{needs}
-use Rattle.frame_hdr.specs.Sequence.{seqLayout}
+use Rattle.frame_layout.specs.Sequence.{seqLayout}
 use Rattle.tile_limit.specs.Promises.{LimitedFrame}
 use Rattle.tile_limit.specs.Within.{frameWithin}
 use Rattle.tile_limit.proofs.Limited.{limited-frame}

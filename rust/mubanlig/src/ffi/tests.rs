@@ -254,12 +254,14 @@ fn the_libraries_are_those_of_this_interface() {
         [
             mubanlig_bits_interface_3(),
             mubanlig_interface_3(),
+            mubanlig_write_interface_3(),
+            mubanlig_tiles_interface_3(),
+            mubanlig_frame_interface_3(),
             mubanlig_within_interface_3(),
             mubanlig_grain_interface_3(),
-            mubanlig_write_interface_3(),
         ]
     };
-    assert_eq!(numbers, [3; 5]);
+    assert_eq!(numbers, [3; 7]);
 }
 
 #[test]

@@ -330,9 +330,11 @@ static void interfaces(void)
 {
     CHECK(mubanlig_bits_interface_3() == MUBANLIG_INTERFACE);
     CHECK(mubanlig_interface_3() == MUBANLIG_INTERFACE);
+    CHECK(mubanlig_write_interface_3() == MUBANLIG_INTERFACE);
+    CHECK(mubanlig_tiles_interface_3() == MUBANLIG_INTERFACE);
+    CHECK(mubanlig_frame_interface_3() == MUBANLIG_INTERFACE);
     CHECK(mubanlig_within_interface_3() == MUBANLIG_INTERFACE);
     CHECK(mubanlig_grain_interface_3() == MUBANLIG_INTERFACE);
-    CHECK(mubanlig_write_interface_3() == MUBANLIG_INTERFACE);
 }
 
 static void readings_of_known_bytes(void)

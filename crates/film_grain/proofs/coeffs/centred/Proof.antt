@@ -5,7 +5,7 @@ use borrow.Author.Needs.{needs}
 use mir.Syntax.{w8, w16}
 use mir.Val.{SFits, toZ, ofZ}
 use mir.ValLaws.{toZ-ofZ}
-use Rattle.film_grain.proofs.Numbers.{difference}
+use Rattle.getbits.proofs.Widths.{difference}
 use Rattle.film_grain.proofs.coeffs.centred.Statement.{statement}
 use Rattle.film_grain.proofs.coeffs.centred.Tie as tie
 

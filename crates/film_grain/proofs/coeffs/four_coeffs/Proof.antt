@@ -15,8 +15,10 @@ use Rattle.getbits.specs.declared.Place.{Place}
 use Rattle.getbits.proofs.Callers.{power-below}
 use Rattle.getbits.proofs.Chain.{through}
 use Rattle.getbits.proofs.Fields.{bits-lt}
-use Rattle.film_grain.specs.Coeffs.{lentCoeffs, coeff}
-use Rattle.film_grain.proofs.Parts.{looked, first-bits, first-read, last-read, less-read}
+use Rattle.getbits.proofs.Parts.{look-bits, skip-there, first-bits, first-read, last-read}
+use Rattle.film_grain.specs.Coeffs.{coeff}
+use Rattle.film_grain.specs.Inner.{lentCoeffs}
+use Rattle.film_grain.proofs.Numbers.{less-read}
 use Rattle.film_grain.proofs.coeffs.four_coeffs.Statement.{statement}
 use Rattle.film_grain.proofs.coeffs.four_coeffs.Tie as tie
 
@@ -74,7 +76,7 @@ small-half : (s : tie.Start) → s .args .half ≤ 128
 small-half s = omega (arith, s .pre .2, pow-mono {i = s .args .coef-bits - 1} {j = 7} (omega (arith, s .pre .1)))
 
 all-bits : (c : tie.After-look-ahead) → let a = c .before .before .args in c .look-ahead .result ≡ bitsAt (a .s .now) (position (a .s .now) (a .p)) (4 * a .coef-bits)
-all-bits c = let s = c .before .before in looked (s .args .s .now) (s .args .p) (4 * s .args .coef-bits) (omega (arith, s .pre .1)) (c .look-ahead .ensures)
+all-bits c = let s = c .before .before in look-bits (s .args .s .now) (s .args .p) (4 * s .args .coef-bits) (omega (arith, s .pre .1)) (c .look-ahead .ensures)
 
 low : (c : tie.After-power) → c .power .result ≡ 2 ^ c .before .before .before .args .coef-bits
 low c = power-below (omega (arith, c .before .before .before .pre .1)) (c .power .ensures .0)
@@ -141,7 +143,7 @@ returns c =
     let v2 = centred-rest k (w / 2 ^ (2 * a .coef-bits)) (k2 .centred2 .ensures) in
     let v3 = centred-rest k (w / 2 ^ a .coef-bits) (k3 .centred3 .ensures) in
     let v4 = centred-rest k w (k4 .centred4 .ensures) in
-    rw (back k1 ∙ v1, back-2 k2 ∙ v2, back-3 k3 ∙ v3, back-4 k4 ∙ v4, c .skip .ensures)
+    rw (back k1 ∙ v1, back-2 k2 ∙ v2, back-3 k3 ∙ v3, back-4 k4 ∙ v4, skip-there (a .s .now) (a .p) (4 * a .coef-bits) (s .pre .4) (c .skip .ensures))
     (four (a .s .now) (a .p) (a .coef-bits) w (s .pre .1) (s .pre .4) (all-bits (k .before)) (a .i) (a .coeffs .now))
 
 pub four-coeffs-spec : {M : Type 1} → statement M

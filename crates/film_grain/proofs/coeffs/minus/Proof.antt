@@ -5,7 +5,7 @@ use lib.IntN.{pos, _-ℤ_}
 use mir.Syntax.{w16}
 use mir.Val.{SFits}
 use mir.ValLaws.{toZ-pos, toZ-ofZ}
-use Rattle.film_grain.proofs.Numbers.{difference}
+use Rattle.getbits.proofs.Widths.{difference}
 use Rattle.film_grain.proofs.coeffs.minus.Statement.{statement}
 use Rattle.film_grain.proofs.coeffs.minus.Tie as tie
 

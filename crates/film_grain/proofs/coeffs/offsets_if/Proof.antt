@@ -11,8 +11,9 @@ use Rattle.getbits.specs.Bits.{bitsAt, bitCount, position, placeAt}
 use Rattle.getbits.specs.declared.Place.{Place}
 use Rattle.getbits.proofs.Chain.{through}
 use Rattle.getbits.proofs.Fields.{bits-lt}
+use Rattle.getbits.proofs.Parts.{more-there, look-bits, skip-there, first-bits, first-read, last-read}
 use Rattle.film_grain.specs.Coeffs.{bitsLess, offsetsIf}
-use Rattle.film_grain.proofs.Parts.{looked, first-bits, first-read, last-read, less-read}
+use Rattle.film_grain.proofs.Numbers.{less-read}
 use Rattle.film_grain.proofs.coeffs.offsets_if.Statement.{statement}
 use Rattle.film_grain.proofs.coeffs.offsets_if.Tie as tie
 
@@ -28,16 +29,13 @@ module _ (s : List ℕ) (p : Place) (w : ℕ) (room : position s p + 25 ≤ bitC
   offset = sym (less-read s _ 9 256 (last-read s p 16 9 w room e (omega arith)))
 
 room : (c : tie.After-look-ahead) → let a = c .before .before .before .before .before .args in position (a .s .now) (a .p) + 25 ≤ bitCount (a .s .now)
-room c = c .before .before .there .ensures (c .before .if2 .taken)
+room c = let a = c .before .before .before .before .before .args in more-there (a .s .now) (a .p) 25 (c .before .before .more-than .ensures) (c .before .if2 .taken)
 
 all-bits : (c : tie.After-look-ahead) → let a = c .before .before .before .before .before .args in c .look-ahead .result ≡ bitsAt (a .s .now) (position (a .s .now) (a .p)) 25
-all-bits c = let a = c .before .before .before .before .before .args in looked (a .s .now) (a .p) 25 (omega arith) (c .look-ahead .ensures)
+all-bits c = let a = c .before .before .before .before .before .args in look-bits (a .s .now) (a .p) 25 (omega arith) (c .look-ahead .ensures)
 
 minus-requires : tie.Need-minus-requires
 minus-requires c κs = let a = c .before .before .before .before .before .args in (omega (arith, all-bits c, bits-lt (a .s .now) (position (a .s .now) (a .p)) 25), omega arith)
-
-skip-requires : tie.Need-skip-requires
-skip-requires c κs = (omega arith, omega arith, room (c .before .before .before))
 
 -- the numbers, read back from their bits
 back : (c : tie.After-minus) → toZ w16 (ofZ w16 (c .minus .result)) ≡ c .minus .result
@@ -58,7 +56,7 @@ returns c =
     let k = k1 .before in
     let a = k .before .before .before .before .before .args in
     let w = k .look-ahead .result in
-    rw (k .before .before .before .if1 .taken, back k1, back-2 k2, back-3 k3, k1 .minus .ensures, k2 .minus2 .ensures, k3 .minus3 .ensures, c .skip .ensures)
+    rw (k .before .before .before .if1 .taken, back k1, back-2 k2, back-3 k3, k1 .minus .ensures, k2 .minus2 .ensures, k3 .minus3 .ensures, skip-there (a .s .now) (a .p) 25 (room k) (c .skip .ensures))
     (sym (through _ _ (mult (a .s .now) (a .p) w (room k) (all-bits k))
     ∙ through _ _ (luma-mult (a .s .now) (a .p) w (room k) (all-bits k))
     ∙ through _ _ (offset (a .s .now) (a .p) w (room k) (all-bits k))))
@@ -97,7 +95,7 @@ offsets-if-spec =
     minus-requires
     (λ c κs. search needs)
     (λ c κs. search needs)
-    skip-requires
+    (λ c κs. search needs)
     returns
     (λ c κs. search needs)
     (λ c κs. search needs)

@@ -1,6 +1,6 @@
 -- `film_grain::coeffs::read_coeffs` meets its contract. Assumes nothing.
 use mathlib.Core.Path.{_≡_, refl, sym, ap, _∙_}
-use Prim.Native.Nat.{ℕ, _+_, _-_, _^_, _≤_}
+use Prim.Native.Nat.{ℕ, _+_, _-_, _*_, _^_, _≤_}
 use native.Mathlib.Omega.{arith}
 use borrow.Author.Needs.{needs}
 use borrow.Author.Tests.{leb-true}
@@ -10,10 +10,12 @@ use lib.Pow.{pow-mono}
 use mir.Syntax.{w8, w16}
 use mir.Val.{SFits, toZ, ofZ}
 use mir.ValLaws.{toZ-ofZ}
-use Rattle.getbits.proofs.Callers.{power-below}
 use Rattle.getbits.specs.Chain.{turns}
+use Rattle.getbits.proofs.Callers.{power-below}
 use Rattle.getbits.proofs.Chain.{through, both, turns-more}
-use Rattle.film_grain.specs.Coeffs.{CoeffsRead, bitsLess, lentCoeffs, noCoeffs, coeff, coeffsFrom}
+use Rattle.getbits.proofs.Parts.{more-there}
+use Rattle.film_grain.specs.Coeffs.{CoeffsRead, bitsLess, noCoeffs, coeff, coeffsFrom}
+use Rattle.film_grain.specs.Inner.{lentCoeffs}
 use Rattle.film_grain.proofs.Numbers.{half-range}
 use Rattle.film_grain.proofs.coeffs.read_coeffs.Statement.{statement}
 use Rattle.film_grain.proofs.coeffs.read_coeffs.Tie as tie
@@ -50,14 +52,12 @@ four-coeffs-requires : tie.Need-four-coeffs-requires Inv-loop μ-loop
 four-coeffs-requires c κs =
     let l = c .before .before .before .before in
     let s = l .before .before .before in
-    let t = both _ _ (c .before .if1 .taken) in
-    (s .pre .1, s .pre .2, half (l .before), omega (arith, leb-true (l .loop .i + 4) (s .args .n) (t .0), s .pre .0, l .loop .inv .1), c .before .before .there .ensures (t .1))
+    let m = c .before .before in
+    let t = both (leb (l .loop .i + 4) (s .args .n)) (m .more-than .result) (c .before .if1 .taken) in
+    (s .pre .1, s .pre .2, half (l .before), omega (arith, leb-true (l .loop .i + 4) (s .args .n) (t .0), s .pre .0, l .loop .inv .1), more-there (s .args .s .now) (l .loop .next) (4 * s .args .coef-bits) (m .more-than .ensures) (t .1))
 
-there-requires : tie.Need-there-requires Inv-loop μ-loop
-there-requires c κs = omega (arith, c .before .before .before .before .pre .2)
-
-mul-there : tie.Need-mul-there Inv-loop μ-loop
-mul-there c = record { fits = omega (arith, c .before .before .before .before .pre .2) }
+mul-more-than : tie.Need-mul-more-than Inv-loop μ-loop
+mul-more-than c = record { fits = omega (arith, c .before .before .before .before .pre .2) }
 
 add-i : tie.Need-add-i Inv-loop μ-loop
 add-i c =
@@ -140,8 +140,8 @@ read-coeffs-spec =
     (λ c κs. search needs)
     loop-holds
     (λ c. search needs)
-    mul-there
-    there-requires
+    mul-more-than
+    (λ c κs. search needs)
     four-coeffs-requires
     add-i
     loop-less

@@ -2,7 +2,8 @@
 use mathlib.Core.Path.{sym, ap, _∙_}
 use borrow.Author.Needs.{needs}
 use Rattle.getbits.proofs.Chain.{through}
-use Rattle.film_grain.specs.Points.{PointLists, pointLists, listsEnd}
+use Rattle.film_grain.specs.Inner.{listsEnd}
+use Rattle.film_grain.specs.Points.{PointLists, pointLists}
 use Rattle.film_grain.proofs.Answers.{neither}
 use Rattle.film_grain.proofs.points.point_lists.Statement.{statement}
 use Rattle.film_grain.proofs.points.point_lists.Tie as tie

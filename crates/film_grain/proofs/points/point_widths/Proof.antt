@@ -12,11 +12,12 @@ use Rattle.getbits.specs.Chain.{pick, turns}
 use Rattle.getbits.specs.declared.Place.{Place}
 use Rattle.getbits.proofs.Chain.{contrary, through}
 use Rattle.getbits.proofs.Fields.{bits-lt}
+use Rattle.getbits.proofs.Parts.{more-there, look-bits, skip-there, first-bits, first-read, last-read}
 use Rattle.seq_fields.specs.Fields.{getSmall}
 use Rattle.seq_fields.specs.declared.Small.{Small}
 use Rattle.film_grain.specs.Points.{noPoints, pointsFrom, planePoints}
 use Rattle.film_grain.proofs.Answers.{neither}
-use Rattle.film_grain.proofs.Parts.{looked, first-bits, first-read, last-read, uncut}
+use Rattle.film_grain.proofs.Numbers.{uncut}
 use Rattle.film_grain.proofs.points.point_widths.Statement.{statement}
 use Rattle.film_grain.proofs.points.point_widths.Tie as tie
 
@@ -54,32 +55,26 @@ module _ (s : List ℕ) (p : Place) (w : ℕ) (room : position s p + 9 ≤ bitCo
   scaling = sym (uncut _ _ 2 (omega arith) (last-read s p 7 2 w room e (omega arith)))
 
 room : (c : tie.After-look-ahead) → let a = c .before .before .before .before .args in position (a .s .now) (a .p) + 9 ≤ bitCount (a .s .now)
-room c = c .before .before .there .ensures (c .before .if1 .taken)
+room c = let a = c .before .before .before .before .args in more-there (a .s .now) (a .p) 9 (c .before .before .more-than .ensures) (c .before .if1 .taken)
 
 nine : (c : tie.After-look-ahead) → let a = c .before .before .before .before .args in c .look-ahead .result ≡ bitsAt (a .s .now) (position (a .s .now) (a .p)) 9
-nine c = let a = c .before .before .before .before .args in looked (a .s .now) (a .p) 9 (omega arith) (c .look-ahead .ensures)
+nine c = let a = c .before .before .before .before .args in look-bits (a .s .now) (a .p) 9 (omega arith) (c .look-ahead .ensures)
 
 cast-n : tie.Need-cast-n
 cast-n c = record { fits = omega (arith, nine c, bits-lt (c .before .before .before .before .args .s .now) (position (c .before .before .before .before .args .s .now) (c .before .before .before .before .args .p)) 9) }
-
-skip-requires : tie.Need-skip-requires
-skip-requires c κs = (omega arith, omega arith, omega (arith, room (c .before)))
 
 returns : tie.Need-returns
 returns c =
     let k = c .before .before in
     let a = k .before .before .before .before .args in
-    rw (c .skip .ensures) (without (a .s .now) (a .p) _ 1 5 (count (a .s .now) (a .p) (k .look-ahead .result) (room k) (nine k)) (c .before .if2 .taken), search needs)
-
-skip-requires-2 : tie.Need-skip-requires-2
-skip-requires-2 c κs = (omega arith, omega arith, room (c .before))
+    rw (skip-there (a .s .now) (a .p) 4 (omega (arith, room k)) (c .skip .ensures)) (without (a .s .now) (a .p) _ 1 5 (count (a .s .now) (a .p) (k .look-ahead .result) (room k) (nine k)) (c .before .if2 .taken), search needs)
 
 returns-2 : tie.Need-returns-2
 returns-2 c =
     let k = c .before .before in
     let a = k .before .before .before .before .args in
     let w = k .look-ahead .result in
-    rw (c .skip2 .ensures) (
+    rw (skip-there (a .s .now) (a .p) 9 (room k) (c .skip2 .ensures)) (
       with-widths (a .s .now) (a .p) _ _ _ (count (a .s .now) (a .p) w (room k) (nine k)) (index (a .s .now) (a .p) w (room k) (nine k)) (scaling (a .s .now) (a .p) w (room k) (nine k)) (c .before .if2 .left),
       (omega arith, omega arith, omega arith, omega arith),
     )
@@ -105,11 +100,11 @@ point-widths-spec =
     (λ c κs. search needs)
     (λ c κs. search needs)
     cast-n
-    skip-requires
+    (λ c κs. search needs)
     returns
     (λ c. search needs)
     (λ c. search needs)
-    skip-requires-2
+    (λ c κs. search needs)
     returns-2
     (λ c κs. search needs)
     returns-3

@@ -7,13 +7,14 @@ use borrow.Author.Needs.{needs}
 use lib.Pow.{pow-mono, pow-pos}
 use Rattle.getbits.specs.Bits.{bitCount, position}
 use Rattle.getbits.proofs.Callers.{power-below}
-use Rattle.film_grain.proofs.Parts.{looked, first-read, last-read, uncut}
+use Rattle.getbits.proofs.Parts.{more-there, look-bits, skip-there, first-read, last-read}
+use Rattle.film_grain.proofs.Numbers.{uncut}
 use Rattle.film_grain.proofs.points.read_point.Statement.{statement}
 use Rattle.film_grain.proofs.points.read_point.Tie as tie
 
 -- the bits of both numbers are there
 room : (c : tie.After-look-ahead) → let a = c .before .before .before .before .args in position (a .s .now) (a .p) + (a .index-bits + a .scaling-bits) ≤ bitCount (a .s .now)
-room c = c .before .before .there .ensures (c .before .if1 .taken)
+room c = let a = c .before .before .before .before .args in more-there (a .s .now) (a .p) (a .index-bits + a .scaling-bits) (c .before .before .more-than .ensures) (c .before .if1 .taken)
 
 -- a value has at most eight bits
 low : (c : tie.After-power) → c .power .result ≡ 2 ^ c .before .before .before .before .before .args .scaling-bits
@@ -25,19 +26,16 @@ cast-t14 c =
     let n = s .args .scaling-bits in
     record { fits = rw (low c) (omega (arith, mod-lt (c .before .look-ahead .result) (pow-pos n), pow-mono {i = n} {j = 8} (s .pre .3))) }
 
-skip-requires : tie.Need-skip-requires
-skip-requires c κs = (omega (arith, c .before .before .before .before .before .pre .0), omega (arith, c .before .before .before .before .before .pre .1, c .before .before .before .before .before .pre .3), room (c .before))
-
 returns : tie.Need-returns
 returns c =
     let k = c .before in
     let s = k .before .before .before .before .before in
     let a = s .args in
     let w = k .before .look-ahead .result in
-    let e = looked (a .s .now) (a .p) (a .index-bits + a .scaling-bits) (omega (arith, s .pre .1, s .pre .3)) (k .before .look-ahead .ensures) in
+    let e = look-bits (a .s .now) (a .p) (a .index-bits + a .scaling-bits) (omega (arith, s .pre .1, s .pre .3)) (k .before .look-ahead .ensures) in
     let step = first-read (a .s .now) (a .p) (a .index-bits) (a .scaling-bits) w (room (k .before)) e (omega (arith, s .pre .1)) in
     let value = last-read (a .s .now) (a .p) (a .index-bits) (a .scaling-bits) w (room (k .before)) e (omega (arith, s .pre .3)) in
-    rw (low k, c .skip .ensures, step) (refl, sym (uncut _ _ (a .scaling-bits) (s .pre .3) value))
+    rw (low k, skip-there (a .s .now) (a .p) (a .index-bits + a .scaling-bits) (room (k .before)) (c .skip .ensures), step) (refl, sym (uncut _ _ (a .scaling-bits) (s .pre .3) value))
 
 returns-2 : tie.Need-returns-2
 returns-2 c =
@@ -55,7 +53,7 @@ read-point-spec =
     (λ c κs. search needs)
     (λ c. search needs)
     cast-t14
-    skip-requires
+    (λ c κs. search needs)
     returns
     (λ c κs. search needs)
     (λ c κs. search needs)

@@ -5,7 +5,7 @@ use mir.Facts.{toZ-ofZ}
 use borrow.Author.Needs.{needs}
 use Rattle.flat.specs.Layout.{buffers}
 use Rattle.flat.proofs.Room.{has-room}
-use Rattle.frame_hdr.specs.Frame.{isOff, usable}
+use Rattle.frame_layout.specs.Frame.{isOff, usable}
 use Rattle.frame_hdr.proofs.Into.{held}
 use Rattle.frame_hdr.proofs.domain.is_usable.Statement.{statement}
 use Rattle.frame_hdr.proofs.domain.is_usable.Tie as tie

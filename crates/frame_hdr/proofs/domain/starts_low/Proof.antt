@@ -6,8 +6,8 @@ use borrow.Author.Needs.{needs}
 use lib.Dec.{leb}
 use lib.ListN.{take}
 use lib.Seq.{getD-take}
-use Rattle.frame_hdr.proofs.Usable.{low-more}
-use Rattle.frame_hdr.specs.Frame.{startsLow}
+use Rattle.frame_layout.proofs.Usable.{low-more}
+use Rattle.frame_layout.specs.Frame.{startsLow}
 use Rattle.frame_hdr.proofs.domain.starts_low.Statement.{statement}
 use Rattle.frame_hdr.proofs.domain.starts_low.Tie as tie
 

@@ -5,7 +5,7 @@ use lib.Dec.{leb}
 use lib.ListN.{take}
 use borrow.Author.Tests.{leb-true}
 use Rattle.getbits.proofs.Chain.{both}
-use Rattle.frame_hdr.specs.Frame.{startsLow, usableTiles}
+use Rattle.frame_layout.specs.Frame.{startsLow, usableTiles}
 use Rattle.frame_hdr.proofs.domain.usable_tiles.Statement.{statement}
 use Rattle.frame_hdr.proofs.domain.usable_tiles.Tie as tie
 

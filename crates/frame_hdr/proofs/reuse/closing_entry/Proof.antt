@@ -5,7 +5,7 @@ use lib.ListN.{getD, take}
 use lib.Seq.{getD-take}
 use Rattle.getbits.proofs.Chain.{taken, left}
 use Rattle.superblocks.proofs.Counts.{not-doubled}
-use Rattle.frame_hdr.proofs.Usable.{start-low}
+use Rattle.frame_layout.proofs.Usable.{start-low}
 use borrow.Author.Needs.{needs}
 use Rattle.frame_hdr.proofs.reuse.closing_entry.Statement.{statement}
 use Rattle.frame_hdr.proofs.reuse.closing_entry.Tie as tie

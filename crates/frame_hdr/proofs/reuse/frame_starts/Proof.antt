@@ -10,7 +10,7 @@ use Rattle.tile_layout.proofs.Laws.{stored}
 use Rattle.tile_layout.specs.Layout.{tabulate, padded}
 use Rattle.superblocks.specs.Counts.{multiplierOf}
 use Rattle.superblocks.proofs.Counts.{low-multiplier, start-fits}
-use Rattle.frame_hdr.proofs.Usable.{start-low}
+use Rattle.frame_layout.proofs.Usable.{start-low}
 use borrow.Author.Needs.{needs}
 use Rattle.frame_hdr.proofs.reuse.frame_starts.Statement.{statement}
 use Rattle.frame_hdr.proofs.reuse.frame_starts.Tie as tie

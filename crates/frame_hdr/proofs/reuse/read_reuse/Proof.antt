@@ -12,7 +12,7 @@ use Rattle.getbits.specs.Bits.{settled}
 use Rattle.getbits.specs.declared.Number.{Number}
 use Rattle.getbits.specs.declared.Place.{Place}
 use Rattle.seq_fields.specs.declared.AdaptiveBoolean.{AdaptiveBoolean}
-use Rattle.frame_hdr.specs.Frame.{askReuse}
+use Rattle.frame_layout.specs.Frame.{askReuse}
 use Rattle.frame_hdr.proofs.reuse.read_reuse.Statement.{statement}
 use Rattle.frame_hdr.proofs.reuse.read_reuse.Tie as tie
 

@@ -6,7 +6,7 @@ use native.Mathlib.Omega.{arith}
 use mir.Facts.{toZ-ofZ}
 use Rattle.getbits.proofs.Chain.{taken, left}
 use Rattle.tile_layout.proofs.Domain.{domain, low-code, low-seq-code}
-use Rattle.frame_hdr.specs.Frame.{isOff}
+use Rattle.frame_layout.specs.Frame.{isOff}
 use borrow.Author.Needs.{needs}
 use Rattle.frame_hdr.proofs.reuse.reuse_allowed.Statement.{statement}
 use Rattle.frame_hdr.proofs.reuse.reuse_allowed.Tie as tie

@@ -10,9 +10,9 @@ use Rattle.tile_layout.proofs.Domain.{domain, low-code, across, down}
 use Rattle.tile_layout.specs.declared.TileInfo.{TileInfo}
 use Rattle.superblocks.specs.Counts.{multiplierOf}
 use Rattle.superblocks.proofs.Counts.{legal}
-use Rattle.frame_hdr.specs.Frame.{reusedInfo}
+use Rattle.frame_layout.specs.Frame.{reusedInfo}
 use Rattle.frame_hdr.proofs.Into.{Held, held}
-use Rattle.frame_hdr.proofs.Usable.{usable-tiles}
+use Rattle.frame_layout.proofs.Usable.{usable-tiles}
 use borrow.Author.Needs.{needs}
 use Rattle.frame_hdr.proofs.reuse.reused_layout.Statement.{statement}
 use Rattle.frame_hdr.proofs.reuse.reused_layout.Tie as tie

@@ -9,8 +9,8 @@ use Rattle.getbits.specs.Chain.{pick}
 use Rattle.getbits.proofs.Chain.{picked}
 use Rattle.tile_layout.proofs.Laws.{closed}
 use Rattle.superblocks.specs.Counts.{multiplierOf}
-use Rattle.frame_hdr.specs.Frame.{reusedStarts}
-use Rattle.frame_hdr.proofs.Usable.{start-low}
+use Rattle.frame_layout.specs.Frame.{reusedStarts}
+use Rattle.frame_layout.proofs.Usable.{start-low}
 use borrow.Author.Needs.{needs}
 use Rattle.frame_hdr.proofs.reuse.reused_starts.Statement.{statement}
 use Rattle.frame_hdr.proofs.reuse.reused_starts.Tie as tie

@@ -5,11 +5,11 @@ use contract.Lifetimes.{Lfts}
 use contract.Running.{givenOf}
 use denote.RattleType.{Denots}
 use denote.Ref.{now}
-use Rattle.frame_hdr.specs.Frame.{parseTileInfoFrmhdr, FrameLayout}
-use Rattle.frame_hdr.specs.Sequence.{seqLayout}
+use Rattle.frame_layout.specs.Frame.{parseTileInfoFrmhdr, FrameLayout}
+use Rattle.frame_layout.specs.Sequence.{seqLayout}
 use Rattle.frame_hdr.proofs.parse_tile_info_frmhdr.Symbol as f-def
 use Rattle.frame_hdr.proofs.parse_tile_info_frmhdr.Met as f-thm
-use Rattle.frame_hdr.proofs.Cleared.{frame-promised}
+use Rattle.frame_layout.proofs.Cleared.{frame-promised}
 use Rattle.reader.specs.Held.{frameHdrOf, frameReadOf}
 use Rattle.reader.proofs.after_frame_hdr.Symbol as g-def
 use Rattle.reader.proofs.after_frame_hdr.Met as g-thm

@@ -5,7 +5,7 @@ use contract.Lifetimes.{Lfts}
 use contract.Running.{givenOf}
 use denote.RattleType.{Denots}
 use denote.Ref.{now}
-use Rattle.frame_hdr.specs.Sequence.{seqLayout}
+use Rattle.frame_layout.specs.Sequence.{seqLayout}
 use Rattle.tile_limit.specs.Promises.{LimitedFrame}
 use Rattle.tile_limit.specs.Within.{parseTileInfoFrmhdrWithin}
 use Rattle.tile_limit.proofs.Limited.{limited-frame}

@@ -9,7 +9,7 @@ use Rattle.codes.specs.Codes.{plus, runOf}
 use Rattle.getbits.specs.Bits.{bitsAt, position, readBits, lookAt}
 use Rattle.getbits.specs.declared.Place.{Place}
 use Rattle.tile_layout.specs.Layout.{readLog2}
-use Rattle.tile_info.proofs.Word.{ones, from, run-of-ones}
+use Rattle.codes.proofs.Word.{count, from, run-behind}
 use Rattle.tile_info.proofs.uniform.read_log2.Statement.{statement}
 use Rattle.tile_info.proofs.uniform.read_log2.Tie as tie
 
@@ -19,10 +19,10 @@ looked s p word e = e
 
 -- the logarithm that is read behind the bits used, by the word
 by-word : (s : List ℕ) (p : Place) (word used least most : ℕ) (w : word ≡ bitsAt s (position s p) 32) → used + (most - least) ≤ 32
-    → let n = ones (from s (position s p) word w used) in
+    → let n = count 1 (from s (position s p) word w used) in
     readLog2 s (readBits s p used .next) least most ≡ record { value = least + min n (most - least); next = readBits s p (used + min (n + 1) (most - least)) .next }
 unfolding readLog2
-by-word s p word used least most w h = ap (plus least) (run-of-ones s p word w (most - least) used h)
+by-word s p word used least most w h = ap (plus least) (run-behind 1 (omega arith) s p word w (most - least) used h)
 
 returns : tie.Need-returns
 unfolding readLog2 runOf
@@ -40,7 +40,7 @@ returns-2 c =
     let e = c .before .before .pre in (
       λ s p e.
           let w = looked s p (a .word) e in
-          let n = ones (from s (position s p) (a .word) w (a .used)) in
+          let n = count 1 (from s (position s p) (a .word) w (a .used)) in
           let z = by-word s p (a .word) (a .used) (a .least) (a .most) w (omega arith) in
           let k : min n (a .most - a .least) ≡ n = omega arith in
           let m : a .used + min (n + 1) (a .most - a .least) ≡ a .used + n + 1 = omega arith in
@@ -53,7 +53,7 @@ returns-3 c =
     let a = c .before .before .args in (
       λ s p e.
           let w = looked s p (a .word) e in
-          let n = ones (from s (position s p) (a .word) w (a .used)) in
+          let n = count 1 (from s (position s p) (a .word) w (a .used)) in
           let z = by-word s p (a .word) (a .used) (a .least) (a .most) w (omega arith) in
           let k : a .least + min n (a .most - a .least) ≡ a .most = omega arith in
           let m : a .used + min (n + 1) (a .most - a .least) ≡ a .used + (a .most - a .least) = omega arith in
