@@ -151,7 +151,7 @@ fn eight_left(s: &[u8], p: Place) -> bool
     p.byte <= s.len() - 8
 }
 
-// Where eight bytes are left, the number comes out of one word. It is inlined in its callers, and so keeps a place out of memory.
+// Where eight bytes are left, the number comes out of one word; where this is inlined, as in the loop over sizes, the place stays out of memory.
 pub fn get_uniform(s: &[u8], p: Place, max: u32) -> Number
     ensures { λ r. ⌜ r ≡ getUniform (now (s .entry)) p max ⌝ }
 {
