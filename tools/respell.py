@@ -16,7 +16,7 @@ NAME = r"[\w'\-]+"
 # Lemmas whose names definitions take.
 LEMMAS = {"four_bytes": "getbits/proofs/Fields.antt", "has_room": "flat/proofs/Room.antt", "num_pos": "film_grain/proofs/Numbers.antt", "place_at": "getbits/proofs/Places.antt", "too_short": "flat_hdr/proofs/Rows.antt"}
 KEEP = {"and-true", "or-true"}  # the library has these too
-MADE = re.compile(r"(?:Need|Else|Then|After|At|In|Lts|Tie)-|-spec$")
+MADE = re.compile(r"returns|(?:Need|Else|Then|After|At|In|Lts|Tie)-|-spec$")
 
 
 def snake(name):
@@ -37,14 +37,14 @@ def read(path):
 
 
 def declared(text):
-    """The names that a file of definitions or lemmas declares at its top, and in its records and data, but for answers to goals, which the toolchain names."""
+    """The names that a file of definitions or lemmas declares at its top, and in its records, data and sections, but for answers to goals, which the toolchain names."""
     inside = False
     for line in text.split("\n"):
         m = re.match(r"(?:(?:unfoldable|abbrev|pub|data|record|opaque|private) )*(" + NAME + r") :(?: |$)", line)
         if m and not re.match(r" tie\.| [^ ]*\.Tie\.", line[m.end(1) + 2:]):
             yield m.group(1)
         if line and not line[0].isspace() and not line.startswith("--"):
-            inside = re.match(r"(?:pub )?(?:data|record) .*where$", line) is not None
+            inside = re.match(r"(?:pub )?(?:data|record|module) .*where$", line) is not None
         m = inside and re.match(r"  +(?:pub )?(" + NAME + r") :(?: |$)", line)
         if m:
             yield m.group(1)

@@ -1,4 +1,6 @@
 // The functions for Rust and C over headers and segments, and the one that writes a layout: numbers and slices only.
+#![tactic(auto)]
+
 ghost use Rattle.std.specs.Prelude.{[], ◌∷◌, ◌++◌, ◌≡◌, ◌≤◌, pos, replicate, drop};
 ghost use Rattle.flat.specs.Layout.{buffers, layout_in};
 ghost use Rattle.lent.specs.Lent.{place_of};

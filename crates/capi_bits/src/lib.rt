@@ -1,4 +1,6 @@
 // The readings for Rust and C: numbers and slices only. A place is lent as the bits before it and the error.
+#![tactic(auto)]
+
 ghost use Rattle.std.specs.Prelude.{◌≡◌, ◌-◌, [], ◌∷◌, length, pos};
 ghost use Rattle.codes.specs.Codes.{get_vlc, get_uniform, get_ref_uniform, get_uleb128, get_golomb, get_bits_subexp_u, get_bits_subexp};
 ghost use Rattle.getbits.specs.Bits.{get_bit, get_bits, get_sbits, byte_pos, byte_align};

@@ -1,4 +1,6 @@
 // The function for Rust and C over a frame's layout: numbers and slices only.
+#![tactic(auto)]
+
 ghost use Rattle.std.specs.Prelude.{true, ◌&&◌, [], ◌∷◌, ◌≡◌};
 ghost use Rattle.flat.specs.Layout.{buffers, has_room, layout_in};
 ghost use Rattle.frame_layout.specs.Frame.{FreshDemand3};

@@ -1,4 +1,6 @@
 // The function for Rust and C over film grain parameters: numbers and slices only.
+#![tactic(auto)]
+
 ghost use Rattle.std.specs.Prelude.{[], ◌∷◌, ◌++◌, ◌≡◌, pos, replicate, drop};
 ghost use Rattle.capi_grain.specs.Calls.{lent_film_grain};
 ghost use Rattle.capi_grain.specs.Promises.{ListsLeft};

@@ -1,4 +1,6 @@
 // The functions for Rust and C over layouts: numbers and slices only.
+#![tactic(auto)]
+
 ghost use Rattle.std.specs.Prelude.{true, [], ◌∷◌, ◌≡◌};
 ghost use Rattle.flat.specs.Layout.{buffers, has_room, layout_in};
 ghost use Rattle.lent.specs.Lent.{place_of};

@@ -1,4 +1,6 @@
 // The functions for Rust and C over layouts within a limit: numbers and slices only.
+#![tactic(auto)]
+
 ghost use Rattle.std.specs.Prelude.{true, ◌&&◌, [], ◌∷◌, ◌≡◌};
 ghost use Rattle.flat.specs.Layout.{buffers, has_room, layout_in};
 ghost use Rattle.frame_layout.specs.Frame.{frame_tiles, parse_tile_info_frmhdr};

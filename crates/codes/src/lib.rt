@@ -1,4 +1,6 @@
 // The readings of variable length, over the reader's bits.
+#![tactic(auto)]
+
 ghost use Rattle.std.specs.Prelude.{◌≡◌, ◌&&◌, List, ℕ, ◌+◌, ◌*◌, ◌-◌, ◌^◌, ◌<◌, ◌≤◌, ltb, leb, eqb, pos, ◌+ℤ◌, ◌-ℤ◌, length};
 ghost use Rattle.codes.specs.Codes.{bit_length, run_of, get_vlc, get_uniform, get_ref_uniform, uleb_from, get_uleb128, get_golomb, subexp_from, subexp_args, get_bits_subexp_u, subexp_range, get_bits_subexp, vlc_if, uniform_if};
 ghost use Rattle.getbits.specs.Bits.{bit_count, position, read_bits, look_at};
@@ -57,7 +59,7 @@ pub fn get_vlc(s: &[u8], p: Place) -> Number
 }
 
 // How get_uniform writes a number below max: in `bits` bits, or in one less if it is below `short`.
-#[derive(Drop)]
+#[derive(Clone, Copy)]
 pub struct Forms {
     pub bits: u32,
     pub short: u32,
@@ -101,7 +103,7 @@ fn uniform_by_bits(s: &[u8], p: Place, max: u32) -> Number
 }
 
 // A number below max, and how many bits it takes.
-#[derive(Drop)]
+#[derive(Clone, Copy)]
 struct Uniform {
     value: u32,
     bits: u32,
@@ -188,7 +190,7 @@ pub fn get_ref_uniform(s: &[u8], p: Place, max: u32, def: u32) -> Number
 }
 
 // A number of up to 56 bits, and the place after it.
-#[derive(Drop)]
+#[derive(Clone, Copy)]
 struct Wide {
     value: u64,
     next: Place,

@@ -1,4 +1,6 @@
 // Reads a byte, 0 or 1, and the input of tile or of frame, and prints an SVG picture of the layout's tiles, cut at the frame's edge.
+#![tactic(auto)]
+
 ghost use Rattle.std.specs.Prelude.{◌≡◌, take};
 ghost use Rattle.io.specs.Counts.{IsPrefixLen};
 ghost use Rattle.text.specs.Text.{Put};

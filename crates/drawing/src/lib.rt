@@ -1,5 +1,7 @@
 // A layout as an SVG picture, put into a lent buffer: the picture's edge, its superblocks, the tiles with their numbers and sizes, and the starts
 // along the sides.
+#![tactic(auto)]
+
 ghost use Rattle.std.specs.Prelude.{◌≡◌, [], ◌∷◌, ◌+◌, ◌*◌, ◌≤◌, ◌<◌, min, max, eqb, ltb, length, get_or, take, drop};
 ghost use Rattle.getbits.specs.Chain.{pick};
 ghost use Rattle.rectangles.specs.Rectangles.{each};
@@ -18,7 +20,7 @@ use text::{put_byte, put_number, put_word};
 use tile_layout::{TileInfo, not_below_0, start_at};
 
 // How a picture is drawn: its size in samples, what a sample is across and down, and a thousandth of the drawing's longer side.
-#[derive(Drop)]
+#[derive(Clone, Copy)]
 struct View {
     w: u32,
     h: u32,
@@ -28,7 +30,7 @@ struct View {
 }
 
 // A tile along one direction of the drawing.
-#[derive(Drop)]
+#[derive(Clone, Copy)]
 struct Span {
     at: u64,
     size: u64,

@@ -9,14 +9,14 @@ use getbits::{Place, look_ahead, more_than, power, read_bits, skip};
 use seq_fields::{bit, get_small};
 
 // A signed number, and the place after it.
-#[derive(Drop)]
+#[derive(Clone, Copy)]
 pub struct Less {
     pub value: i16,
     pub next: Place,
 }
 
 // The offsets of a chroma plane.
-#[derive(Drop)]
+#[derive(Clone, Copy)]
 pub struct OffsetsRead {
     pub mult: i16,
     pub luma_mult: i16,
@@ -25,7 +25,7 @@ pub struct OffsetsRead {
 }
 
 // The offsets of both chroma planes.
-#[derive(Drop)]
+#[derive(Clone, Copy)]
 pub struct ChromaOffsets {
     pub uv_mult: [i16; 2],
     pub uv_luma_mult: [i16; 2],

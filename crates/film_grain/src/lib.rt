@@ -1,4 +1,6 @@
 // Film grain parameters: the Rust's parse_film_grain_data.
+#![tactic(auto)]
+
 ghost use Rattle.std.specs.Prelude.{◌≡◌, pos, replicate};
 ghost use Rattle.film_grain.specs.Grain.{no_film_grain, refused_grain, is_i420, one_list_empty, grain_fields, parse_film_grain_data};
 ghost use Rattle.film_grain.specs.Inner.{coeff_lists, grain_read};
@@ -16,19 +18,19 @@ use coeffs::{chroma_offsets, plane_coeffs};
 use points::{has_points, point_lists};
 
 // The Rust's [[u8; 2]; 14] in its order: point i has its position at 2 i and its value at 2 i + 1.
-#[derive(Drop)]
+#[derive(Clone, Copy)]
 pub struct PlanePoints {
     pub points: [u8; 28],
 }
 
 // The Rust's [i8; 28].
-#[derive(Drop)]
+#[derive(Clone, Copy)]
 pub struct PlaneCoeffs {
     pub coeffs: [i8; 28],
 }
 
 // A record of the Rust's fields, luma first and then both chroma planes.
-#[derive(Drop)]
+#[derive(Clone, Copy)]
 pub struct FilmGrainData {
     pub chroma_scaling_from_luma: bool,
     pub num_points: [u8; 3],
@@ -47,7 +49,7 @@ pub struct FilmGrainData {
     pub block_size: u8,
 }
 
-#[derive(Drop)]
+#[derive(Clone, Copy)]
 pub struct FilmGrainRead {
     pub answer: Answer,
     pub fgd: FilmGrainData,
@@ -55,7 +57,7 @@ pub struct FilmGrainRead {
 }
 
 // The fields behind the point lists, but for the coefficients, and the place after them.
-#[derive(Drop)]
+#[derive(Clone, Copy)]
 struct GrainFields {
     scaling_shift: u8,
     ar_coeff_lag: u8,

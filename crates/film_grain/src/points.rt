@@ -10,7 +10,7 @@ use getbits::{Place, look_ahead, more_than, power, read_bits, skip};
 use seq_fields::get_small;
 
 // The points of a plane, but for the list: how many, and the position that the last one read has.
-#[derive(Drop)]
+#[derive(Clone, Copy)]
 pub struct PointsEnd {
     pub refused: bool,
     pub num_points: u8,
@@ -19,7 +19,7 @@ pub struct PointsEnd {
 }
 
 // The points of the planes, but for the lists.
-#[derive(Drop)]
+#[derive(Clone, Copy)]
 pub struct ListsEnd {
     pub refused: bool,
     pub num_points: [u8; 3],
@@ -27,7 +27,7 @@ pub struct ListsEnd {
 }
 
 // A point: the step to its position, its value, and the place after it.
-#[derive(Drop)]
+#[derive(Clone, Copy)]
 pub struct PointRead {
     pub step: u32,
     pub value: u8,
@@ -35,7 +35,7 @@ pub struct PointRead {
 }
 
 // How many points there are, the widths of a step and of a value, and the place after these.
-#[derive(Drop)]
+#[derive(Clone, Copy)]
 pub struct PointWidths {
     pub num_points: u8,
     pub index_bits: u32,

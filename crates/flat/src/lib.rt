@@ -1,4 +1,6 @@
 // Records in lent buffers: a tile layout and the features of the segments.
+#![tactic(auto)]
+
 ghost use Rattle.std.specs.Prelude.{true, [], ◌∷◌, ◌≡◌, ◌≤◌, length, replicate};
 ghost use Rattle.flat.specs.Layout.{over_front, buffers, has_room, put_layout, starts_in, layout_in};
 ghost use Rattle.seq_fields.specs.Fields.{bit_of};

@@ -1,4 +1,6 @@
 // Film grain parameters as flat numbers: the record's fields in the order of its declaration.
+#![tactic(auto)]
+
 ghost use Rattle.std.specs.Prelude.{map, ◌≡◌, ℕ, ◌+◌, ◌<◌, ◌≤◌, pos, length};
 ghost use Rattle.flat.specs.Layout.{over_front};
 ghost use Rattle.flat.specs.Rows.{PutAt};

@@ -1,5 +1,7 @@
 // A sequence header as flat numbers: each record in the order of its declaration. Its layout stands in buffers of its own.
 // A part is put where it stands in a buffer for all 146 numbers; a shorter buffer stays as it was.
+#![tactic(auto)]
+
 ghost use Rattle.std.specs.Prelude.{◌++◌, ◌≡◌, ◌+◌, ◌≤◌, pos, length, replicate};
 ghost use Rattle.flat.specs.Layout.{over_front};
 ghost use Rattle.flat.specs.Rows.{PutAt};

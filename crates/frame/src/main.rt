@@ -1,4 +1,6 @@
 // Reads a sequence header, a frame's type and size and tiling bits from standard input, and prints the frame's layout.
+#![tactic(auto)]
+
 ghost use Rattle.std.specs.Prelude.{◌≡◌, take};
 ghost use Rattle.io.specs.Counts.{IsPrefixLen};
 ghost use Rattle.frame.specs.Print.{frame_text};

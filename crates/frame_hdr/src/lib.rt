@@ -1,4 +1,6 @@
 // The tile layout of a frame: the sequence's, or one of its own.
+#![tactic(auto)]
+
 ghost use Rattle.std.specs.Prelude.{◌≡◌, true, false, ◌&&◌};
 ghost use Rattle.answers.specs.Numbers.{is_refusal};
 ghost use Rattle.flat.specs.Layout.{buffers, has_room, put_layout, layout_in};
@@ -29,7 +31,7 @@ use domain::{is_extent, is_usable};
 use reuse::{read_reuse, reuse_allowed, reused_layout};
 
 // The answer of a reading into lent buffers, the frame's code and the place after the reading. A refusal has the code that was given.
-#[derive(Drop)]
+#[derive(Clone, Copy)]
 pub struct FrameOutcome {
     pub answer: Answer,
     pub sb128: u8,

@@ -1,4 +1,6 @@
 // The records of a frame's layout.
+#![tactic(auto)]
+
 ghost use Rattle.std.specs.Prelude.{◌≡◌};
 ghost use Rattle.frame_layout.specs.Frame.{frame_type_of, present_of, frame_tiles};
 
@@ -7,7 +9,7 @@ use getbits::Place;
 use seq_fields::AdaptiveBoolean;
 use tile_layout::{TileInfo, TileRead};
 
-#[derive(Drop)]
+#[derive(Clone, Copy)]
 pub enum FrameType {
     Key,
     Inter,
@@ -16,7 +18,7 @@ pub enum FrameType {
 }
 
 // What a frame's header has of its size and its layout.
-#[derive(Drop)]
+#[derive(Clone, Copy)]
 pub struct FrameHeader {
     pub frame_type: FrameType,
     pub width: i32,
@@ -26,7 +28,7 @@ pub struct FrameHeader {
 }
 
 // What a frame's layout needs of the sequence header.
-#[derive(Drop)]
+#[derive(Clone, Copy)]
 pub struct SeqLayout {
     pub sb128: u8,
     pub max_width: i32,
@@ -38,7 +40,7 @@ pub struct SeqLayout {
 }
 
 // The answer, the frame's header with it and the place after the reading. A refusal has the header that was given.
-#[derive(Drop)]
+#[derive(Clone, Copy)]
 pub struct FrameRead {
     pub answer: Answer,
     pub hdr: FrameHeader,

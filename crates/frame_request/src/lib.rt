@@ -1,4 +1,6 @@
 // What the programs frame, panel, rects and draw share: a sequence header, a frame and tiling bits in bytes, and the text of a frame's layout.
+#![tactic(auto)]
+
 ghost use Rattle.std.specs.Prelude.{true, ◌≡◌, ◌≤◌};
 ghost use Rattle.text.specs.Text.{Put};
 ghost use Rattle.frame_request.specs.Print.{frame_read_text};
@@ -14,7 +16,7 @@ use tile_layout::no_tile_info;
 use tile_request::put_whole_layout;
 
 // What a frame's layout is read for besides the frame.
-#[derive(Drop)]
+#[derive(Clone, Copy)]
 pub struct SequenceArgs {
     pub seq_sb128: u8,
     pub level: u8,

@@ -1,4 +1,6 @@
 // The bit reader, by value: a place goes in beside the bytes, and the next place comes back.
+#![tactic(auto)]
+
 ghost use Rattle.std.specs.Prelude.{◌≡◌, ◌+◌, ◌-◌, ◌%◌, ◌^◌, ◌<◌, ◌≤◌, ltb, pos, negsuc, length, drop};
 ghost use Rattle.getbits.specs.Bits.{bit_count, position, settled, run_out, refused, read_bits, look_at, get_bit, get_bits, signed_of, get_sbits, byte_pos, byte_align, bits_if, get_flag, flag_if};
 
@@ -7,7 +9,7 @@ mod words;
 use words::{narrow, peek, within};
 
 // The byte reached, the bits of it used (0 to 7) and the reader's error.
-#[derive(Drop)]
+#[derive(Clone, Copy)]
 pub struct Place {
     pub byte: usize,
     pub used: u32,
@@ -15,19 +17,19 @@ pub struct Place {
 }
 
 // A reading's answer, and the place after it.
-#[derive(Drop)]
+#[derive(Clone, Copy)]
 pub struct Number {
     pub value: u32,
     pub next: Place,
 }
 
-#[derive(Drop)]
+#[derive(Clone, Copy)]
 pub struct Signed {
     pub value: i32,
     pub next: Place,
 }
 
-#[derive(Drop)]
+#[derive(Clone, Copy)]
 pub struct Flag {
     pub value: bool,
     pub next: Place,

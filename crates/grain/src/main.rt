@@ -1,4 +1,6 @@
 // Reads a pixel layout's number and film grain parameters from standard input, and prints the parameters.
+#![tactic(auto)]
+
 ghost use Rattle.std.specs.Prelude.{◌≡◌, take};
 ghost use Rattle.io.specs.Counts.{IsPrefixLen};
 ghost use Rattle.text.specs.Text.{Put};

@@ -1,4 +1,6 @@
 // The row of bits of a tile layout, in bytes.
+#![tactic(auto)]
+
 ghost use Rattle.std.specs.Prelude.{true, [], ◌∷◌, ◌≡◌, ◌+◌, ◌-◌, ◌*◌, ◌%◌, ◌^◌, ◌<◌, ◌≤◌, length};
 ghost use Rattle.codes.specs.Codes.{bit_length};
 ghost use Rattle.tile_layout.specs.Limits.{in_domain};
@@ -14,7 +16,7 @@ use tile_info::{SizeBounds, col_bounds, row_bounds};
 use tile_layout::{TileArgs, TileInfo, in_domain};
 
 // How many bits there are, and the bytes that they make, with zeros behind them.
-#[derive(Drop)]
+#[derive(Clone, Copy)]
 pub struct LayoutRow {
     pub bits: u32,
     pub bytes: [u8; 177],

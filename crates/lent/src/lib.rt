@@ -1,4 +1,6 @@
 // What a caller of the C interface lends: flags in bytes, and a reader's place as a position in bits and an error.
+#![tactic(auto)]
+
 ghost use Rattle.std.specs.Prelude.{◌≡◌, [], ◌∷◌};
 ghost use Rattle.getbits.specs.Bits.{settled};
 ghost use Rattle.lent.specs.Lent.{is_set, place_of, position_of, lent_place};

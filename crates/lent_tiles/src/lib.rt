@@ -1,4 +1,6 @@
 // What the calls over the lent buffers of a layout share: the records they are given, and how an answer is handed back.
+#![tactic(auto)]
+
 ghost use Rattle.std.specs.Prelude.{true, false, [], ◌∷◌, ◌≡◌};
 ghost use Rattle.answers.specs.Numbers.{is_refusal};
 ghost use Rattle.flat.specs.Layout.{buffers, has_room, layout_in};

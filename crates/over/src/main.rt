@@ -1,4 +1,6 @@
 // Reads a layout's record, a request and tiling bits from standard input, and prints the whole layout that is read over that record.
+#![tactic(auto)]
+
 ghost use Rattle.std.specs.Prelude.{◌≡◌, take};
 ghost use Rattle.io.specs.Counts.{IsPrefixLen};
 ghost use Rattle.over.specs.Print.{over_request, over_text};

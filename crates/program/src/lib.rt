@@ -1,4 +1,6 @@
 // What the programs share: numbers in their input, its limit, lines that they print alike, and what is said where the output can't be written.
+#![tactic(auto)]
+
 ghost use Rattle.std.specs.Prelude.{◌≡◌, ◌+◌, ◌*◌, ◌<◌, length};
 ghost use Rattle.text.specs.Text.{Put};
 ghost use Rattle.program.specs.Input.{byte_at, two_at, is_input};

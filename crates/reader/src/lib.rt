@@ -1,4 +1,6 @@
 // The reader as a struct. Its operations take it apart, call the functions by value, and hand it back with its next place.
+#![tactic(auto)]
+
 ghost use Rattle.std.specs.Prelude.{◌≡◌, drop};
 ghost use Rattle.answers.specs.Numbers.{number_of};
 ghost use Rattle.getbits.specs.Bits.{settled, get_bit, get_bits, byte_pos, byte_align};
@@ -19,21 +21,21 @@ use seq_record::SequenceHeader;
 use tile_limit::TileLimit;
 
 // The reader holds the lent bytes together with its place in them.
-#[derive(Drop)]
+#[derive(Clone, Copy)]
 pub struct GetBits<'a> {
     pub data: &'a [u8],
     pub at: Place,
 }
 
 // A number read, and the reader at the place after it.
-#[derive(Drop)]
+#[derive(Clone, Copy)]
 pub struct Read<'a> {
     pub value: u32,
     pub reader: GetBits<'a>,
 }
 
 // A sequence header's answer, the header, and the reader at the place after it.
-#[derive(Drop)]
+#[derive(Clone, Copy)]
 pub struct SeqHdrRead<'a> {
     pub answer: Answer,
     pub hdr: SequenceHeader,
@@ -41,7 +43,7 @@ pub struct SeqHdrRead<'a> {
 }
 
 // The same of a frame's header.
-#[derive(Drop)]
+#[derive(Clone, Copy)]
 pub struct FrameHdrRead<'a> {
     pub answer: Answer,
     pub hdr: FrameHeader,

@@ -1,4 +1,6 @@
 // The rectangles of a layout's tiles, cut at the frame's edge, into a lent buffer.
+#![tactic(auto)]
+
 ghost use Rattle.std.specs.Prelude.{◌≡◌, true, [], ◌∷◌, ◌++◌, ◌+◌, ◌*◌, ◌<◌, ◌≤◌, length, get_or, drop};
 ghost use Rattle.std.proofs.lemmas.List.Edits.{sets};
 ghost use Rattle.tile_layout.specs.Limits.{unsigned, size};
@@ -9,7 +11,7 @@ use answers::Answer;
 use tile_layout::{TileInfo, is_size, not_below_0, start_at};
 
 // A tile along one direction: where it begins, and how far it reaches, in samples.
-#[derive(Drop)]
+#[derive(Clone, Copy)]
 struct Span {
     begin: u32,
     reach: u32,

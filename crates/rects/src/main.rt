@@ -1,4 +1,6 @@
 // Reads a byte, 0 or 1, and the input of tile or of frame, and prints the rectangles of the layout's tiles, row by row, cut at the frame's edge.
+#![tactic(auto)]
+
 ghost use Rattle.std.specs.Prelude.{◌≡◌, ◌+◌, ◌*◌, ◌≤◌, length, take, drop};
 ghost use Rattle.io.specs.Counts.{IsPrefixLen};
 ghost use Rattle.program.specs.Output.{chosen_text};

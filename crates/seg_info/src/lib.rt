@@ -1,4 +1,6 @@
 // The features of the segments.
+#![tactic(auto)]
+
 ghost use Rattle.std.specs.Prelude.{◌≡◌, ◌+◌, ◌%◌, ◌<◌, ◌≤◌, length};
 ghost use Rattle.getbits.specs.Bits.{bit_count, position, signed_of};
 ghost use Rattle.getbits.specs.Chain.{pick, turns};
@@ -7,7 +9,7 @@ ghost use Rattle.seg_info.specs.Inner.{FeaturesOf, lent_seg, lent_read, segment_
 
 use getbits::{Place, get_flag, get_sbits, look_ahead, more_than, skip};
 
-#[derive(Drop)]
+#[derive(Clone, Copy)]
 pub struct SegmentationDataSet {
     pub delta_q: [i16; 16],
     pub delta_q_mask: u16,
@@ -15,20 +17,20 @@ pub struct SegmentationDataSet {
     pub globalmv_mask: u16,
 }
 
-#[derive(Drop)]
+#[derive(Clone, Copy)]
 pub struct SegRead {
     pub seg: SegmentationDataSet,
     pub next: Place,
 }
 
-#[derive(Drop)]
+#[derive(Clone, Copy)]
 struct DeltaRead {
     value: i16,
     next: Place,
 }
 
 // The features of one segment.
-#[derive(Drop)]
+#[derive(Clone, Copy)]
 struct Features {
     changed: bool,
     delta: i16,
@@ -37,14 +39,14 @@ struct Features {
 }
 
 // The masks of a record, whose deltas are lent.
-#[derive(Drop)]
+#[derive(Clone, Copy)]
 struct Masks {
     delta_q_mask: u16,
     skip_mask: u16,
     globalmv_mask: u16,
 }
 
-#[derive(Drop)]
+#[derive(Clone, Copy)]
 struct MasksRead {
     masks: Masks,
     next: Place,

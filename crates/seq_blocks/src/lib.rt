@@ -1,4 +1,6 @@
 // The block tools of a sequence header: partition, segmentation, intra.
+#![tactic(auto)]
+
 ghost use Rattle.std.specs.Prelude.{◌≡◌};
 ghost use Rattle.seq_blocks.specs.Blocks.{sb_code, aspect_ratio_log2, read_partition, seg_info_if, read_segmentation, filter_index, read_intra, read_blocks};
 
@@ -6,7 +8,7 @@ use getbits::{Place, flag_if, get_flag};
 use seg_info::{SegRead, SegmentationDataSet, no_seg_info, parse_seg_info};
 use seq_fields::small_if;
 
-#[derive(Drop)]
+#[derive(Clone, Copy)]
 pub struct Partition {
     pub sb128: u8,
     pub sdp: bool,
@@ -16,13 +18,13 @@ pub struct Partition {
     pub max_pb_aspect_ratio_log2: u8,
 }
 
-#[derive(Drop)]
+#[derive(Clone, Copy)]
 struct PartitionRead {
     fields: Partition,
     next: Place,
 }
 
-#[derive(Drop)]
+#[derive(Clone, Copy)]
 pub struct SeqSegmentation {
     pub ext: bool,
     pub info_present: bool,
@@ -30,13 +32,13 @@ pub struct SeqSegmentation {
     pub d: SegmentationDataSet,
 }
 
-#[derive(Drop)]
+#[derive(Clone, Copy)]
 struct SegmentationRead {
     fields: SeqSegmentation,
     next: Place,
 }
 
-#[derive(Drop)]
+#[derive(Clone, Copy)]
 pub struct Intra {
     pub intra_dip: bool,
     pub intra_edge_filter: bool,
@@ -47,20 +49,20 @@ pub struct Intra {
     pub ibp: bool,
 }
 
-#[derive(Drop)]
+#[derive(Clone, Copy)]
 struct IntraRead {
     fields: Intra,
     next: Place,
 }
 
-#[derive(Drop)]
+#[derive(Clone, Copy)]
 pub struct Blocks {
     pub partition: Partition,
     pub segmentation: SeqSegmentation,
     pub intra: Intra,
 }
 
-#[derive(Drop)]
+#[derive(Clone, Copy)]
 pub struct BlocksRead {
     pub fields: Blocks,
     pub next: Place,

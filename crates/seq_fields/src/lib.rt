@@ -1,4 +1,6 @@
 // What the groups of a sequence header share: two enums, and fields of a few bits.
+#![tactic(auto)]
+
 ghost use Rattle.std.specs.Prelude.{◌≡◌, ◌^◌, ◌<◌, ◌≤◌};
 ghost use Rattle.getbits.specs.Chain.{pick};
 ghost use Rattle.seq_fields.specs.Fields.{get_small, small_if, bit_of, is_mono, layout_of};
@@ -6,14 +8,14 @@ ghost use Rattle.seq_fields.specs.declared.AdaptiveBoolean.TheVariants.{Off, On,
 
 use getbits::{Place, read_bits};
 
-#[derive(Drop)]
+#[derive(Clone, Copy)]
 pub enum AdaptiveBoolean {
     Off,
     On,
     Adaptive,
 }
 
-#[derive(Drop)]
+#[derive(Clone, Copy)]
 pub enum PixelLayout {
     I400,
     I420,
@@ -22,7 +24,7 @@ pub enum PixelLayout {
 }
 
 // A field of at most eight bits, and the place after it.
-#[derive(Drop)]
+#[derive(Clone, Copy)]
 pub struct Small {
     pub value: u8,
     pub next: Place,

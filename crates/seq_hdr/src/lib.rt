@@ -1,4 +1,6 @@
 // The sequence header.
+#![tactic(auto)]
+
 ghost use Rattle.std.specs.Prelude.{◌≡◌, true, ltb};
 ghost use Rattle.answers.specs.Numbers.{number_of, is_refusal};
 ghost use Rattle.answers.specs.declared.Answer.TheVariants.{ShortBuffer};
@@ -30,7 +32,7 @@ use tile_info::parse_tile_info_into;
 use tile_layout::no_tile_info;
 
 // The answer, the record, and the place after it.
-#[derive(Drop)]
+#[derive(Clone, Copy)]
 pub struct SeqRead {
     pub answer: Answer,
     pub hdr: SequenceHeader,
@@ -38,20 +40,20 @@ pub struct SeqRead {
 }
 
 // The answer of a reading into lent buffers, and the place after it.
-#[derive(Drop)]
+#[derive(Clone, Copy)]
 pub struct HeaderOutcome {
     pub answer: Answer,
     pub next: Place,
 }
 
-#[derive(Drop)]
+#[derive(Clone, Copy)]
 struct StartRead {
     fields: Start,
     next: Place,
 }
 
 // The tiling's answer, the layout's presence, and the place after it.
-#[derive(Drop)]
+#[derive(Clone, Copy)]
 struct TilingOutcome {
     answer: Answer,
     present: AdaptiveBoolean,
@@ -59,7 +61,7 @@ struct TilingOutcome {
 }
 
 // What stands behind the record before the tiling, beside the layout: the answer, the layout's presence, the film grain flag, and the place after it.
-#[derive(Drop)]
+#[derive(Clone, Copy)]
 struct RestRead {
     answer: Answer,
     present: AdaptiveBoolean,

@@ -1,4 +1,6 @@
 // The inter tools of a sequence header.
+#![tactic(auto)]
+
 ghost use Rattle.std.specs.Prelude.{◌≡◌, ◌≤◌, ◌<◌};
 ghost use Rattle.seq_inter.specs.Refs.{motion_modes, order_hint_bits, read_motion, drl_reorder, ref_frames, ref_frames_log2, read_ref_frames};
 ghost use Rattle.seq_inter.specs.Inter.{count_if, read_drl, read_tip, read_mv, read_screen, read_inter};
@@ -7,7 +9,7 @@ use codes::uniform_if;
 use getbits::{Place, flag_if, get_flag};
 use seq_fields::{AdaptiveBoolean, Small, adaptive_or, bit, small_if};
 
-#[derive(Drop)]
+#[derive(Clone, Copy)]
 pub struct Motion {
     pub motion_modes: u8,
     pub frame_motion_modes_present: bool,
@@ -18,13 +20,13 @@ pub struct Motion {
     pub order_hint_n_bits: u8,
 }
 
-#[derive(Drop)]
+#[derive(Clone, Copy)]
 pub struct MotionRead {
     pub fields: Motion,
     pub next: Place,
 }
 
-#[derive(Drop)]
+#[derive(Clone, Copy)]
 pub struct RefFrames {
     pub refmv_bank: bool,
     pub drl_reorder: u8,
@@ -33,13 +35,13 @@ pub struct RefFrames {
     pub ref_frames_log2: u8,
 }
 
-#[derive(Drop)]
+#[derive(Clone, Copy)]
 pub struct RefFramesRead {
     pub fields: RefFrames,
     pub next: Place,
 }
 
-#[derive(Drop)]
+#[derive(Clone, Copy)]
 pub struct Drl {
     pub number_of_bits_for_lt_frame_id: u8,
     pub def_max_drl_bits: u8,
@@ -49,13 +51,13 @@ pub struct Drl {
     pub num_same_ref_comp: u8,
 }
 
-#[derive(Drop)]
+#[derive(Clone, Copy)]
 struct DrlRead {
     fields: Drl,
     next: Place,
 }
 
-#[derive(Drop)]
+#[derive(Clone, Copy)]
 pub struct Tip {
     pub tip: bool,
     pub tip_hole_fill: bool,
@@ -67,13 +69,13 @@ pub struct Tip {
     pub tip_explicit_qp: bool,
 }
 
-#[derive(Drop)]
+#[derive(Clone, Copy)]
 struct TipRead {
     fields: Tip,
     next: Place,
 }
 
-#[derive(Drop)]
+#[derive(Clone, Copy)]
 pub struct Mv {
     pub opfl_refine: bool,
     pub refine_mv: bool,
@@ -86,25 +88,25 @@ pub struct Mv {
     pub short_refresh_frame_flags: bool,
 }
 
-#[derive(Drop)]
+#[derive(Clone, Copy)]
 struct MvRead {
     fields: Mv,
     next: Place,
 }
 
-#[derive(Drop)]
+#[derive(Clone, Copy)]
 pub struct Screen {
     pub screen_content_tools: AdaptiveBoolean,
     pub force_integer_mv: AdaptiveBoolean,
 }
 
-#[derive(Drop)]
+#[derive(Clone, Copy)]
 struct ScreenRead {
     fields: Screen,
     next: Place,
 }
 
-#[derive(Drop)]
+#[derive(Clone, Copy)]
 pub struct Inter {
     pub drl: Drl,
     pub tip: Tip,
@@ -112,7 +114,7 @@ pub struct Inter {
     pub screen: Screen,
 }
 
-#[derive(Drop)]
+#[derive(Clone, Copy)]
 pub struct InterRead {
     pub fields: Inter,
     pub next: Place,

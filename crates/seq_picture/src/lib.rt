@@ -1,4 +1,6 @@
 // The first fields of a sequence header: level and format, layers, frame size and crop window, dependencies.
+#![tactic(auto)]
+
 ghost use Rattle.std.specs.Prelude.{◌≡◌, ◌+◌, ◌-◌, ◌^◌, ◌<◌, ◌≤◌};
 ghost use Rattle.getbits.specs.Chain.{pick};
 ghost use Rattle.seq_picture.specs.Level.{read_level, layout_of, ss_hor, ss_ver, hbd_of, read_format};
@@ -8,21 +10,21 @@ use codes::{get_vlc, vlc_if};
 use getbits::{Place, Signed, bits_if, flag_if, get_flag, read_bits};
 use seq_fields::{PixelLayout, get_small, small_if};
 
-#[derive(Drop)]
+#[derive(Clone, Copy)]
 pub struct Level {
     pub reduced_still_picture_header: bool,
     pub level: u8,
     pub tier: u8,
 }
 
-#[derive(Drop)]
+#[derive(Clone, Copy)]
 pub struct LevelRead {
     pub fields: Level,
     pub layout_idx: u32,
     pub next: Place,
 }
 
-#[derive(Drop)]
+#[derive(Clone, Copy)]
 pub struct Format {
     pub layout: PixelLayout,
     pub ss_hor: u8,
@@ -30,14 +32,14 @@ pub struct Format {
     pub hbd: u8,
 }
 
-#[derive(Drop)]
+#[derive(Clone, Copy)]
 pub struct FormatRead {
     pub fields: Format,
     pub depth_idx: u32,
     pub next: Place,
 }
 
-#[derive(Drop)]
+#[derive(Clone, Copy)]
 pub struct Layers {
     pub lcr_id: u8,
     pub still_picture: bool,
@@ -46,13 +48,13 @@ pub struct Layers {
     pub monotonic: bool,
 }
 
-#[derive(Drop)]
+#[derive(Clone, Copy)]
 struct LayersRead {
     fields: Layers,
     next: Place,
 }
 
-#[derive(Drop)]
+#[derive(Clone, Copy)]
 pub struct FrameSize {
     pub width_n_bits: u8,
     pub height_n_bits: u8,
@@ -60,13 +62,13 @@ pub struct FrameSize {
     pub max_height: i32,
 }
 
-#[derive(Drop)]
+#[derive(Clone, Copy)]
 struct FrameSizeRead {
     fields: FrameSize,
     next: Place,
 }
 
-#[derive(Drop)]
+#[derive(Clone, Copy)]
 pub struct CropInfo {
     pub enabled: bool,
     pub left: u32,
@@ -75,20 +77,20 @@ pub struct CropInfo {
     pub bottom: u32,
 }
 
-#[derive(Drop)]
+#[derive(Clone, Copy)]
 struct CropRead {
     fields: CropInfo,
     next: Place,
 }
 
-#[derive(Drop)]
+#[derive(Clone, Copy)]
 struct LayerList {
     present: bool,
     dependencies: [u8; 8],
     next: Place,
 }
 
-#[derive(Drop)]
+#[derive(Clone, Copy)]
 pub struct Dependencies {
     pub tlayer_dependency_present: bool,
     pub mlayer_dependency_present: bool,
@@ -96,13 +98,13 @@ pub struct Dependencies {
     pub mlayer_dependencies: [u8; 8],
 }
 
-#[derive(Drop)]
+#[derive(Clone, Copy)]
 struct DependenciesRead {
     fields: Dependencies,
     next: Place,
 }
 
-#[derive(Drop)]
+#[derive(Clone, Copy)]
 pub struct Picture {
     pub layers: Layers,
     pub size: FrameSize,
@@ -110,7 +112,7 @@ pub struct Picture {
     pub dependencies: Dependencies,
 }
 
-#[derive(Drop)]
+#[derive(Clone, Copy)]
 pub struct PictureRead {
     pub fields: Picture,
     pub next: Place,

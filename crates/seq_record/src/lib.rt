@@ -1,4 +1,6 @@
 // The sequence header's record.
+#![tactic(auto)]
+
 ghost use Rattle.std.specs.Prelude.{◌≡◌};
 ghost use Rattle.seq_record.specs.Zero.{no_picture, no_blocks, no_motion, no_ref_frames, no_inter, no_residual, no_filters, no_seq_hdr};
 
@@ -10,19 +12,19 @@ use seq_picture::{CropInfo, Dependencies, Format, FrameSize, Layers, Level, Pict
 use seq_residual::{Entropy, Filters, Quant, Residual, Transform};
 use tile_layout::{TileInfo, no_tile_info};
 
-#[derive(Drop)]
+#[derive(Clone, Copy)]
 pub struct Start {
     pub id: u8,
     pub profile: u8,
 }
 
-#[derive(Drop)]
+#[derive(Clone, Copy)]
 pub struct SeqTiling {
     pub present: AdaptiveBoolean,
     pub t: TileInfo,
 }
 
-#[derive(Drop)]
+#[derive(Clone, Copy)]
 pub struct SequenceHeader {
     pub start: Start,
     pub level: Level,

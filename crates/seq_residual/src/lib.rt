@@ -1,4 +1,6 @@
 // The residual tools of a sequence header, and its loop filters.
+#![tactic(auto)]
+
 ghost use Rattle.std.specs.Prelude.{◌≡◌};
 ghost use Rattle.getbits.specs.Chain.{pick};
 ghost use Rattle.seq_residual.specs.Residual.{read_transform, read_entropy, signed_if, wrapped_if, read_quant, read_residual};
@@ -7,7 +9,7 @@ ghost use Rattle.seq_residual.specs.Filters.{wiener_mask, read_restoration, on_s
 use getbits::{Place, flag_if, get_flag};
 use seq_fields::{AdaptiveBoolean, Small, adaptive_or, bit, get_small, small_if};
 
-#[derive(Drop)]
+#[derive(Clone, Copy)]
 pub struct Transform {
     pub fsc: bool,
     pub idtx_intra: bool,
@@ -18,13 +20,13 @@ pub struct Transform {
     pub cctx: bool,
 }
 
-#[derive(Drop)]
+#[derive(Clone, Copy)]
 struct TransformRead {
     fields: Transform,
     next: Place,
 }
 
-#[derive(Drop)]
+#[derive(Clone, Copy)]
 pub struct Entropy {
     pub tcq: AdaptiveBoolean,
     pub parity_hiding: bool,
@@ -32,13 +34,13 @@ pub struct Entropy {
     pub avg_cdf_type: u8,
 }
 
-#[derive(Drop)]
+#[derive(Clone, Copy)]
 struct EntropyRead {
     fields: Entropy,
     next: Place,
 }
 
-#[derive(Drop)]
+#[derive(Clone, Copy)]
 pub struct Quant {
     pub separate_uv_delta_q: bool,
     pub equal_ac_dc_q: bool,
@@ -50,32 +52,32 @@ pub struct Quant {
     pub uvac_dq_enabled: bool,
 }
 
-#[derive(Drop)]
+#[derive(Clone, Copy)]
 struct SignedSmall {
     value: i8,
     next: Place,
 }
 
-#[derive(Drop)]
+#[derive(Clone, Copy)]
 struct QuantRead {
     fields: Quant,
     next: Place,
 }
 
-#[derive(Drop)]
+#[derive(Clone, Copy)]
 pub struct Residual {
     pub transform: Transform,
     pub entropy: Entropy,
     pub quant: Quant,
 }
 
-#[derive(Drop)]
+#[derive(Clone, Copy)]
 pub struct ResidualRead {
     pub fields: Residual,
     pub next: Place,
 }
 
-#[derive(Drop)]
+#[derive(Clone, Copy)]
 struct RestorationRead {
     restoration: bool,
     mask: u8,
@@ -83,7 +85,7 @@ struct RestorationRead {
     next: Place,
 }
 
-#[derive(Drop)]
+#[derive(Clone, Copy)]
 pub struct Filters {
     pub disable_loopfilters_across_tiles: bool,
     pub cdef: bool,
@@ -97,7 +99,7 @@ pub struct Filters {
     pub df_par_bits: u8,
 }
 
-#[derive(Drop)]
+#[derive(Clone, Copy)]
 pub struct FiltersRead {
     pub fields: Filters,
     pub next: Place,

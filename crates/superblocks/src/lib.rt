@@ -1,6 +1,8 @@
 // Counts of superblocks, of the sequence's size and of the frame's, as two types. No function adds the one to the other: `in_frame` alone turns
 // the one into the other, by the multiplier of the pair of codes, and `same_number` alone compares the two as they are. Every function has an
 // answer for every argument.
+#![tactic(auto)]
+
 ghost use Rattle.std.specs.Prelude.{◌≡◌, ◌+◌, ◌-◌, ◌*◌, ◌/◌, ◌%◌, ◌^◌, ◌<◌, ◌≤◌, min, max, ◌==◌, nat_le, nat_lt, slice_index};
 ghost use Rattle.codes.specs.Codes.{get_uniform};
 ghost use Rattle.tile_layout.specs.Limits.{superblocks, tile_log2};
@@ -16,30 +18,30 @@ mod quotient;
 use quotient::quotient;
 
 // A count of the sequence's superblocks.
-#[derive(Drop)]
+#[derive(Clone, Copy)]
 pub struct SeqSb(u32);
 
 // A count of the frame's superblocks.
-#[derive(Drop)]
+#[derive(Clone, Copy)]
 pub struct FrameSb(u32);
 
 // An area in the frame's superblocks.
-#[derive(Drop)]
+#[derive(Clone, Copy)]
 pub struct AreaSb(u32);
 
 // A count of tiles.
-#[derive(Drop)]
+#[derive(Clone, Copy)]
 pub struct TileCount(u32);
 
 // The superblock codes of a frame and of its sequence.
-#[derive(Drop)]
+#[derive(Clone, Copy)]
 pub struct Pair {
     frame_code: u8,
     seq_code: u8,
 }
 
 // How a row of superblocks is split: `tiles` tiles of `tile` superblocks, the first `extra` of them one larger.
-#[derive(Drop)]
+#[derive(Clone, Copy)]
 pub struct Split {
     pub tile: SeqSb,
     pub extra: TileCount,
@@ -47,14 +49,14 @@ pub struct Split {
 }
 
 // A size as get_uniform has it: a number below max.
-#[derive(Drop)]
+#[derive(Clone, Copy)]
 pub struct SizeNumber {
     pub max: u32,
     pub value: u32,
 }
 
 // The size of a column or a row, and the place behind it.
-#[derive(Drop)]
+#[derive(Clone, Copy)]
 pub struct TileSize {
     pub size: FrameSb,
     pub next: Place,

@@ -1,5 +1,7 @@
 // Appends text to a lent buffer: each function puts bytes at a place and answers the place behind them.
 // What does not fit is dropped.
+#![tactic(auto)]
+
 ghost use Rattle.std.specs.Prelude.{◌≡◌, [], ◌∷◌, ◌++◌, ◌+◌, ◌*◌, ◌<◌, min, length, get_or, take, eqb, nat_abs, pos};
 ghost use Rattle.getbits.specs.Chain.{pick};
 ghost use Rattle.text.specs.Text.{Put, blank, decimal, mark, signed, nexts, row, filled, line};

@@ -1,4 +1,6 @@
 // Reads a request and tiling bits from standard input, and prints the layout.
+#![tactic(auto)]
+
 ghost use Rattle.std.specs.Prelude.{◌≡◌, take};
 ghost use Rattle.io.specs.Counts.{IsPrefixLen};
 ghost use Rattle.tile.specs.Print.{tile_text};

@@ -1,4 +1,6 @@
 // The tile layout of a frame.
+#![tactic(auto)]
+
 ghost use Rattle.std.specs.Prelude.{◌≡◌, true, replicate};
 ghost use Rattle.answers.specs.declared.Answer.TheVariants.{InvalidTileInfo};
 ghost use Rattle.getbits.specs.Bits.{settled, look_at, get_flag};
@@ -28,7 +30,7 @@ use nonuniform::{max_tile_height_sb, read_tiles};
 use uniform::{read_log2, uniform_starts};
 
 // What the sizes of a non-uniform layout fill, and the most that one may be.
-#[derive(Drop)]
+#[derive(Clone, Copy)]
 pub struct SizeBounds {
     pub total: FrameSb,
     pub limit: FrameSb,
@@ -70,7 +72,7 @@ pub fn row_bounds(a: TileArgs, widest_tile: FrameSb) -> SizeBounds
 }
 
 // The answer of a reading into lent buffers, and the place after it.
-#[derive(Drop)]
+#[derive(Clone, Copy)]
 pub struct TileOutcome {
     pub answer: Answer,
     pub next: Place,

@@ -8,7 +8,7 @@ use getbits::power;
 use superblocks::{AreaSb, FrameSb, Pair};
 use tile_layout::TileArgs;
 
-#[derive(Drop)]
+#[derive(Clone, Copy)]
 pub struct FrameLimits {
     pub pair: Pair,
     pub sbw: FrameSb,

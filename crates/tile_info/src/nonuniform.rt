@@ -10,7 +10,7 @@ use getbits::Place;
 use superblocks::{FrameSb, read_size, tiles_log2};
 use tile_layout::TileArgs;
 
-#[derive(Drop)]
+#[derive(Clone, Copy)]
 pub struct Sizes {
     pub tiles: u8,
     pub sum: FrameSb,
@@ -44,7 +44,7 @@ fn read_sizes(s: &[u8], p: Place, starts: &mut [u16], total: FrameSb, limit: Fra
     }
 }
 
-#[derive(Drop)]
+#[derive(Clone, Copy)]
 pub struct Tiles {
     pub tiles: u8,
     pub log2: u8,

@@ -12,7 +12,7 @@ use superblocks::{FrameSb, Pair, SeqSb, Split, even_split};
 use tile_layout::TileArgs;
 
 // A logarithm, and how many bits of the word are used behind it.
-#[derive(Drop)]
+#[derive(Clone, Copy)]
 pub struct Log2 {
     pub log2: u8,
     pub used: u32,

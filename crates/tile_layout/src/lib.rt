@@ -1,4 +1,6 @@
 // The records of a tile layout, and the domain of its arguments.
+#![tactic(auto)]
+
 ghost use Rattle.std.specs.Prelude.{◌≡◌, get_or};
 ghost use Rattle.tile_layout.specs.Limits.{unsigned, args_of, is_size, is_pair, in_domain, no_tile_info};
 
@@ -6,7 +8,7 @@ use answers::Answer;
 use getbits::Place;
 
 // Starts are counted in the frame's superblocks; the entry behind the last start closes the layout.
-#[derive(Drop)]
+#[derive(Clone, Copy)]
 pub struct TileInfo {
     pub uniform: bool,
     pub min_log2_cols: u8,
@@ -22,7 +24,7 @@ pub struct TileInfo {
 }
 
 // What a layout is read for.
-#[derive(Drop)]
+#[derive(Clone, Copy)]
 pub struct TileArgs {
     pub multiplier: u32,
     pub frame_code: u8,
@@ -34,7 +36,7 @@ pub struct TileArgs {
 }
 
 // The answer, the layout with it and the place after the reading. A refusal has the layout that was given.
-#[derive(Drop)]
+#[derive(Clone, Copy)]
 pub struct TileRead {
     pub answer: Answer,
     pub info: TileInfo,

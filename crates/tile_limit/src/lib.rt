@@ -1,4 +1,6 @@
 // Layouts for a viewer that can show only so many columns and rows.
+#![tactic(auto)]
+
 ghost use Rattle.std.specs.Prelude.{◌≡◌};
 ghost use Rattle.tile_layout.specs.Limits.{args_of};
 ghost use Rattle.frame_layout.specs.Sequence.{seq_layout};
@@ -14,7 +16,7 @@ use tile_info::parse_tile_info;
 use tile_layout::{TileInfo, TileRead};
 
 // The most columns and rows that a viewer can show.
-#[derive(Drop)]
+#[derive(Clone, Copy)]
 pub struct TileLimit {
     pub cols: u8,
     pub rows: u8,

@@ -1,4 +1,6 @@
 // What the programs tile, over, frame, panel, rects and write share: a request with tiling bits and a layout's record in bytes, and the text of a layout.
+#![tactic(auto)]
+
 ghost use Rattle.std.specs.Prelude.{◌≡◌, ◌+◌, ◌≤◌, pos};
 ghost use Rattle.program.specs.Output.{starts_text};
 ghost use Rattle.superblocks.specs.Counts.{multiplier_of};

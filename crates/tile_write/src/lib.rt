@@ -1,4 +1,6 @@
 // A tile layout written as bits into a lent buffer.
+#![tactic(auto)]
+
 ghost use Rattle.std.specs.Prelude.{◌++◌, ◌≡◌, ◌≤◌, length, take, drop};
 ghost use Rattle.tile_layout.specs.Limits.{args_of};
 ghost use Rattle.layout_writing.specs.Promises.{Writing};

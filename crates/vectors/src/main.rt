@@ -1,4 +1,6 @@
 // Replays the stored answers that the file `answers` has, and prints for each operation how many were replayed and how many agree.
+#![tactic(auto)]
+
 ghost use Rattle.std.specs.Prelude.{◌≡◌, ◌^◌, ◌<◌, ◌≤◌, length};
 
 use capi::{mubanlig_parse_seg_info, mubanlig_parse_seq_hdr, mubanlig_write_tile_info};
@@ -19,7 +21,7 @@ use program::report_written;
 use verdicts::{Tally, Verdict, agrees, counted, signed};
 
 // Numbers of a case, and the place behind them.
-#[derive(Drop)]
+#[derive(Clone, Copy)]
 struct Row {
     numbers: [u32; 512],
     count: usize,
@@ -27,14 +29,14 @@ struct Row {
 }
 
 // A number of a row, how many zeros follow it, and the place behind it.
-#[derive(Drop)]
+#[derive(Clone, Copy)]
 struct RowNumber {
     value: u32,
     zeros: u32,
     next: Place,
 }
 
-#[derive(Drop)]
+#[derive(Clone, Copy)]
 struct Turn {
     tally: Tally,
     more: bool,

@@ -1,18 +1,20 @@
 // Does a replayed case give the stored numbers? How many did?
+#![tactic(auto)]
+
 ghost use Rattle.std.specs.Prelude.{◌≡◌, ◌^◌, ◌<◌, negsuc};
 ghost use Rattle.getbits.specs.Bits.{signed_of};
 ghost use Rattle.verdicts.specs.Rows.{stands, all_same, agreeing, AllSame, Tells};
 ghost use Rattle.verdicts.specs.Counts.{one_more, counted};
 
 // How many cases of each operation were replayed, and how many agree.
-#[derive(Drop)]
+#[derive(Clone, Copy)]
 pub struct Tally {
     pub replayed: [u32; 21],
     pub agree: [u32; 21],
 }
 
 // The operation of a case, and whether it gives the stored numbers.
-#[derive(Drop)]
+#[derive(Clone, Copy)]
 pub struct Verdict {
     pub kind: usize,
     pub agrees: bool,

@@ -1,4 +1,6 @@
 // Reads a frame's size, codes, level and tier, a layout's record and the size of a buffer, and prints the bits that the layout is read from, in bytes.
+#![tactic(auto)]
+
 ghost use Rattle.std.specs.Prelude.{◌≡◌, ◌+◌, ◌*◌, ◌/◌, ◌≤◌, length, take};
 ghost use Rattle.io.specs.Counts.{IsPrefixLen};
 ghost use Rattle.text.specs.Text.{Put, row};
