@@ -27,25 +27,25 @@ handed error v k e =
 
 module _ (s : List ℕ) (k error : ℕ) where
   -- n bits that are there
-  read-on : (n : ℕ) {v j : ℕ} → k + n ≤ bit_count s → v ≡ bits_at s k n → j ≡ (k + n) % 2 ^ 64 → (v ∷ j ∷ error ∷ []) ≡ lent_number (read_bits s (place_of k error) n) error
-  read-on n {v} h e f =
+  read_on : (n : ℕ) {v j : ℕ} → k + n ≤ bit_count s → v ≡ bits_at s k n → j ≡ (k + n) % 2 ^ 64 → (v ∷ j ∷ error ∷ []) ≡ lent_number (read_bits s (place_of k error) n) error
+  read_on n {v} h e f =
       let p = place_of k error in
       let at : position s p ≡ k = pos_at s k (is_set error) (omega arith) in
       let there : read_bits s p n ≡ record { value = bits_at s k n; next = place_at (k + n) (is_set error) } = read_there s p n (omega (arith, at)) ∙ rw at in
       rw (there, e) (handed error (bits_at s k n) (k + n) f)
 
-  pub bit-on : {v j : ℕ} → k < bit_count s → v ≡ bit_at s k → j ≡ (k + 1) % 2 ^ 64 → (v ∷ j ∷ error ∷ []) ≡ lent_number (get_bit s (place_of k error)) error
+  pub bit_on : {v j : ℕ} → k < bit_count s → v ≡ bit_at s k → j ≡ (k + 1) % 2 ^ 64 → (v ∷ j ∷ error ∷ []) ≡ lent_number (get_bit s (place_of k error)) error
   unfolding get_bit
-  bit-on h e f = read-on 1 (omega arith) (e ∙ sym (bits_one s k)) f
+  bit_on h e f = read_on 1 (omega arith) (e ∙ sym (bits_one s k)) f
 
   -- what is looked at from here on
   ahead : (n : ℕ) {w : ℕ} → k ≤ bit_count s → n ≤ 32 → w ≡ look_at s (place_of k 0) n → w ≡ bits_at s k n
   unfolding look_at
   ahead n h g e = e ∙ taken _ _ _ (le-leb n 32 g) ∙ rw (pos_at s k (is_set 0) h)
 
-  pub bits-on : (n : ℕ) {w j : ℕ} → k + n ≤ bit_count s → n ≤ 32 → w ≡ look_at s (place_of k 0) n → j ≡ (k + n) % 2 ^ 64
+  pub bits_on : (n : ℕ) {w j : ℕ} → k + n ≤ bit_count s → n ≤ 32 → w ≡ look_at s (place_of k 0) n → j ≡ (k + n) % 2 ^ 64
       → (w ∷ j ∷ error ∷ []) ≡ lent_number (get_bits s (place_of k error) (pos n)) error
-  bits-on n h g e f = rw (sym (width_in s (place_of k error) n g)) (read-on n h (ahead n (omega arith) g e) f)
+  bits_on n h g e f = rw (sym (width_in s (place_of k error) n g)) (read_on n h (ahead n (omega arith) g e) f)
 
   module _ (max : ℕ) (two : 2 ≤ max) (fits : max < 2 ^ 31) (there : k + 32 ≤ bit_count s) where
     abbrev p : Place
@@ -66,14 +66,14 @@ module _ (s : List ℕ) (k error : ℕ) where
     here : position s p ≡ k
     here = pos_at s k (is_set error) (omega arith)
 
-    length-known : (1 ≤ l) × (l < 32)
-    length-known = let is = length_is max (omega arith) fits in (is.0, is.1)
+    length_known : (1 ≤ l) × (l < 32)
+    length_known = let is = length_is max (omega arith) fits in (is.0, is.1)
 
     -- the bits of the longer form are those of the shorter and one more
     more : (bits_at s k l ≡ 2 * most.value + last.value) × ((read_bits s p l).next ≡ last.next)
     more =
-        let e : l - 1 + 1 ≡ l = omega (arith, length-known.0) in
-        rw (e, here) at (read_more s p (l - 1) (omega (arith, here, length-known.1)))
+        let e : l - 1 + 1 ≡ l = omega (arith, length_known.0) in
+        rw (e, here) at (read_more s p (l - 1) (omega (arith, here, length_known.1)))
 
     behind : get_uniform s p max ≡ pick (ltb most.value m) most (then last λ b. record { value = 2 * most.value - m + b.value; next = b.next })
     unfolding get_uniform
@@ -86,20 +86,20 @@ module _ (s : List ℕ) (k error : ℕ) where
 
     module _ (w : ℕ) (e : w ≡ look_at s (place_of k 0) l) where
       whole : w ≡ 2 * most.value + last.value
-      whole = ahead l (omega arith) (omega (arith, length-known.1)) e ∙ more.0
+      whole = ahead l (omega arith) (omega (arith, length_known.1)) e ∙ more.0
 
       half : w / 2 ≡ most.value
       half = omega (arith, whole, bit_lt s most.next)
 
-      pub uniform-short : {j : ℕ} → w / 2 < m → j ≡ (k + (l - 1)) % 2 ^ 64 → ((w / 2) ∷ j ∷ error ∷ []) ≡ lent_number (get_uniform s p max) error
-      uniform-short h f =
+      pub uniform_short : {j : ℕ} → w / 2 < m → j ≡ (k + (l - 1)) % 2 ^ 64 → ((w / 2) ∷ j ∷ error ∷ []) ≡ lent_number (get_uniform s p max) error
+      uniform_short h f =
           rw (behind ∙ taken _ _ _ (lt-ltb most.value m (omega (arith, half))))
-          (read-on (l - 1) (omega (arith, length-known.1)) (half ∙ ap (λ (x : Number). x.value) (read_there s p (l - 1) (omega (arith, here, length-known.1))) ∙ rw here) f)
+          (read_on (l - 1) (omega (arith, length_known.1)) (half ∙ ap (λ (x : Number). x.value) (read_there s p (l - 1) (omega (arith, here, length_known.1))) ∙ rw here) f)
 
-      pub uniform-long : {j : ℕ} → m ≤ w / 2 → j ≡ (k + l) % 2 ^ 64 → ((w - m) ∷ j ∷ error ∷ []) ≡ lent_number (get_uniform s p max) error
-      uniform-long h f =
+      pub uniform_long : {j : ℕ} → m ≤ w / 2 → j ≡ (k + l) % 2 ^ 64 → ((w - m) ∷ j ∷ error ∷ []) ≡ lent_number (get_uniform s p max) error
+      uniform_long h f =
           let next : last.next ≡ place_at (k + l) (is_set error) =
-          sym more.1 ∙ ap (λ (x : Number). x.next) (read_there s p l (omega (arith, here, length-known.1))) ∙ rw here in
+          sym more.1 ∙ ap (λ (x : Number). x.next) (read_there s p l (omega (arith, here, length_known.1))) ∙ rw here in
           let value : 2 * most.value - m + last.value ≡ w - m = omega (arith, whole, half) in
           rw (behind ∙ left _ _ _ (le-ltb most.value m (omega (arith, half))) ∙ through _ _ refl, next, value)
           (handed error (w - m) (k + l) f)

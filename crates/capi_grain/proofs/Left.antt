@@ -29,8 +29,8 @@ module _ (x : FilmGrainRead) (n : ℕ) (number : n ≡ number_of x.answer) (outc
       ⊎_elim (λ a. not-0 (omega (arith, e, number, ap number_of a))) (λ r. not-7 (omega (arith, e, number, ap (λ (z : FilmGrainRead). number_of z.answer) r))) outcome.is
 
   -- refused, the zero record is left
-  pub zeros-left : (before after : List ℤ) → 186 ≤ length before → after ≡ over_front 186 (flat_film_grain x.fgd) before → n ≡ 7 → after ≡ replicate 186 (pos 0) ++ drop 186 before
-  zeros-left before after room put e =
+  pub zeros_left : (before after : List ℤ) → 186 ≤ length before → after ≡ over_front 186 (flat_film_grain x.fgd) before → n ≡ 7 → after ≡ replicate 186 (pos 0) ++ drop 186 before
+  zeros_left before after room put e =
       ⊎_elim
       (λ a. absurd (omega (arith, e, number, ap number_of a)))
       (λ r.

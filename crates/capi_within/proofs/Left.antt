@@ -16,7 +16,7 @@ use Rattle.flat.specs.Layout.{Buffers, has_room, layout_in}
 use Rattle.lent.specs.Calls.{answered, too_short}
 use Rattle.lent_tiles.specs.Calls.{handed_tiles, handed_frame, lent_tiles, lent_frames}
 use Rattle.lent_tiles.specs.Left.{tiles_left}
-use Rattle.lent_tiles.proofs.Left.{left-answer, left-accepted}
+use Rattle.lent_tiles.proofs.Left.{left_answer, left_accepted}
 use Rattle.tile_limit.specs.Promises.{Limited}
 use Rattle.tile_limit.specs.declared.TileLimit.{TileLimit}
 
@@ -24,13 +24,13 @@ use Rattle.tile_limit.specs.declared.TileLimit.{TileLimit}
 pub limited_left : (z : TileRead) (n : ℕ) (b : Buffers) (number : n ≡ number_of z.answer) (info : is_refusal z.answer ≡ false → layout_in b ≡ z.info)
     {m : TileLimit} {w : TileRead} {p : Place} → Limited m w z → Limited m w (tiles_left n b p)
 limited_left z n b number info {m} l =
-    let six = ap number_of (left-answer z n b number info) in
+    let six = ap number_of (left_answer z n b number info) in
     record {
       few_cols = λ r.
-          let h = left-accepted z n b number info r in
+          let h = left_accepted z n b number info r in
           subst (λ (t : TileInfo). t.cols ≤ m.cols) (sym (info h)) (l.few_cols h);
       few_rows = λ r.
-          let h = left-accepted z n b number info r in
+          let h = left_accepted z n b number info r in
           subst (λ (t : TileInfo). t.rows ≤ m.rows) (sym (info h)) (l.few_rows h);
       six = λ r over. six ∙ l.six r over;
       six_accepted = λ k. l.six_accepted (sym six ∙ k);

@@ -17,7 +17,7 @@ use Rattle.getbits.specs.Chain.{pick, then}
 use Rattle.getbits.specs.declared.Number.{Number}
 use Rattle.getbits.specs.declared.Place.{Place}
 use Rattle.getbits.proofs.Chain.{both, picked, through, left}
-use Rattle.getbits.proofs.Places.{lt_or_le, pos-in}
+use Rattle.getbits.proofs.Places.{lt_or_le, pos_in}
 use Rattle.getbits.proofs.Callers.{read_lt, bit_lt}
 use Rattle.codes.specs.Codes.{plus, bit_length, get_uniform, subexp_from, inv_recenter, subexp_args, get_bits_subexp_u}
 use Rattle.codes.proofs.Args.{args_known}
@@ -110,4 +110,4 @@ eight_there s p e t =
     let both = both (ltb p.used 8) (leb (p.byte + 8) (length s)) (sym e ∙ t) in
     let u = ltb-true p.used 8 both.0 in
     let b = leb-true (p.byte + 8) (length s) both.1 in
-    (u, b, omega (arith, pos-in s p (omega (arith, b)) u))
+    (u, b, omega (arith, pos_in s p (omega (arith, b)) u))

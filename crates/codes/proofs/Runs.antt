@@ -13,7 +13,7 @@ use Rattle.getbits.proofs.Callers.{read_none, read_settled}
 use Rattle.getbits.proofs.Chain.{picked}
 use Rattle.getbits.proofs.Fields.{bits_lt}
 use Rattle.codes.specs.Codes.{plus, run_of}
-use Rattle.codes.proofs.Word.{count, run-behind}
+use Rattle.codes.proofs.Word.{count, run_behind}
 
 -- a run is at most as long as is looked for
 pub run_le : (bit k : ℕ) (s : List ℕ) (p : Place) → (run_of bit k s p).value ≤ k
@@ -38,7 +38,7 @@ pub run_word : (bit k : ℕ) (s : List ℕ) (p : Place) {w n : ℕ} {r : Number}
 unfolding look_at
 run_word bit (suc m) s p {w} {n} {r} b h l e f g =
     let whole : w * 2 ^ 0 % 4294967296 ≡ w = omega (arith, e, bits_lt s (position s p) 32) in
-    let run = rw whole at (run-behind bit b s p w e (suc m) 0 (omega arith)) in
+    let run = rw whole at (run_behind bit b s p w e (suc m) 0 (omega arith)) in
     let z : min (n + 1) (suc m) ≡ 0 + min (count bit w + 1) (suc m) = omega (arith, f) in
     ap (λ (x : Number). record { value = n; next = x.next }) g
     ∙ ap (λ (x : ℕ). record { value = n; next = (read_bits s p x).next }) z

@@ -124,19 +124,19 @@ module _ (s : List ℕ) (i word : ℕ) (w : word ≡ bits_at s i 32) where
         rw back at (shl_lt (31 - k) k (bits_lt s (i + (k + 1)) (31 - k))),
       )
 
-  bit-low : (k : ℕ) → bit_at s (i + k) < 2
-  bit-low k = rw bits_one at (bits_lt s (i + k) 1)
+  bit_low : (k : ℕ) → bit_at s (i + k) < 2
+  bit_low k = rw bits_one at (bits_lt s (i + k) 1)
 
   -- the bit behind k others, by the word
   pub is_one : (k : ℕ) → k < 32 → 2147483648 ≤ from k → bit_at s (i + k) ≡ 1
   is_one k h top =
       let f = first k h in
-      omega (arith, f.1, f.3, bit-low k)
+      omega (arith, f.1, f.3, bit_low k)
 
   pub is_zero : (k : ℕ) → k < 32 → from k < 2147483648 → bit_at s (i + k) ≡ 0
   is_zero k h top =
       let f = first k h in
-      omega (arith, f.1, f.3, bit-low k)
+      omega (arith, f.1, f.3, bit_low k)
 
 -- a run behind k bits, by the word
 module _ (bit : ℕ) (h : bit < 2) (s : List ℕ) (p : Place) (word : ℕ) (w : word ≡ bits_at s (position s p) 32) where
@@ -162,16 +162,16 @@ module _ (bit : ℕ) (h : bit < 2) (s : List ℕ) (p : Place) (word : ℕ) (w : 
       let b = bit_at s (position s p + k) in
       let f = first s (position s p) word w k (omega arith) in
       let is : from s (position s p) word w k ≡ (1 - bit) * 2147483648 + f.0 =
-      f.1 ∙ ap (λ (v : ℕ). v * 2147483648 + f.0) (other b bit (bit-low s (position s p) word w k) h (eqb-false b bit e)) in
+      f.1 ∙ ap (λ (v : ℕ). v * 2147483648 + f.0) (other b bit (bit_low s (position s p) word w k) h (eqb-false b bit e)) in
       let n = none_counted bit (from s (position s p) word w k) f.0 h f.3 is in
       let a : min (counted k) (suc m) ≡ 0 = omega (arith, n) in
       let z : k + min (counted k + 1) (suc m) ≡ k + 1 = omega (arith, n) in
       rw (bit_behind s p k, e, a, z) refl
 
-  pub run-behind : (m k : ℕ) → k + m ≤ 32 → run_of bit m s (read_bits s p k).next ≡ told m k
+  pub run_behind : (m k : ℕ) → k + m ≤ 32 → run_of bit m s (read_bits s p k).next ≡ told m k
   unfolding run_of
-  run-behind zero k l =
+  run_behind zero k l =
       let a : min (counted k) 0 ≡ 0 = omega arith in
       let z : k + min (counted k + 1) 0 ≡ k = omega arith in
       rw (a, z) refl
-  run-behind (suc m) k l = one_more m k l (eqb (bit_at s (position s p + k)) bit) refl (run-behind m (k + 1) (omega arith))
+  run_behind (suc m) k l = one_more m k l (eqb (bit_at s (position s p + k)) bit) refl (run_behind m (k + 1) (omega arith))

@@ -16,7 +16,7 @@ use Rattle.seq_record.specs.declared.SequenceHeader.{SequenceHeader}
 use Rattle.seq_hdr.specs.Header.{read_head, with_tiling, parse_seq_hdr}
 use Rattle.seq_hdr.specs.HeaderLayout.{args_before}
 use Rattle.seq_hdr.specs.Tiling.{tile_info_if, read_tiling}
-use Rattle.seq_hdr.proofs.Accepted.{tiling_of, accepted-header}
+use Rattle.seq_hdr.proofs.Accepted.{tiling_of, accepted_header}
 use Rattle.frame_layout.specs.Frame.{in_frame_domain, frame_args, read_reuse, fresh_layout, parse_tile_info_frmhdr, frame_tiles}
 use Rattle.frame_layout.specs.Sequence.{seq_layout}
 use Rattle.frame_layout.specs.declared.FrameHeader.{FrameHeader}
@@ -62,7 +62,7 @@ tiling_covers hdr s p grain = by (get_flag s p).value refl
 header_covers : (s : List ℕ) (p : Place) (strict : Bool) → HeaderCovers (parse_seq_hdr s p strict)
 header_covers s p strict =
     let head = read_head s p in
-    accepted-header (λ hdr. SequenceCovers (seq_layout hdr)) s p strict (λ _ z grain. tiling_covers head.hdr s head.next grain z)
+    accepted_header (λ hdr. SequenceCovers (seq_layout hdr)) s p strict (λ _ z grain. tiling_covers head.hdr s head.next grain z)
 
 pub fresh_covers : FreshCovers
 fresh_covers =

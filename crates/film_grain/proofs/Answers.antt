@@ -43,21 +43,21 @@ module _ (P : FilmGrainRead → Type 0) (refused : (q : Place) → P (refused_gr
       kept P _ _ λ block.
       picked P block.next.error (refused_grain block.next) _ (λ _. refused block.next) (λ _. h _ (record { accepted = refl; num_points_lem = refl; points = refl }))
 
-  behind-lists : (chroma : Bool) (s : List ℕ) (p : Place) (layout : PixelLayout) (from-luma : Bool)
+  behind_lists : (chroma : Bool) (s : List ℕ) (p : Place) (layout : PixelLayout) (from-luma : Bool)
       → ((l : PointLists) → l ≡ point_lists chroma s p → l.refused ≡ false → (r : FilmGrainRead) → AcceptedWith l r → P r)
       → P (then (point_lists chroma s p) λ l. pick (l.refused || one_list_empty layout l.num_points) (refused_grain l.next) (grain_fields from-luma s l))
   unfolding then
-  behind-lists chroma s p layout from-luma h =
+  behind_lists chroma s p layout from-luma h =
       let l = point_lists chroma s p in
       picked P (l.refused || one_list_empty layout l.num_points) _ _
       (λ _. refused l.next)
       (λ e. fields from-luma s l (h l refl (neither l.refused _ e).0))
 
-  pub of-answers : (s : List ℕ) (p : Place) (layout : PixelLayout)
+  pub of_answers : (s : List ℕ) (p : Place) (layout : PixelLayout)
       → ((chroma : Bool) (q : Place) (l : PointLists) → l ≡ point_lists chroma s q → l.refused ≡ false → (r : FilmGrainRead) → AcceptedWith l r → P r)
       → P (parse_film_grain_data s p layout)
   unfolding parse_film_grain_data
-  of-answers s p layout h =
+  of_answers s p layout h =
       kept P _ _ λ chroma.
       kept P _ _ λ from-luma.
-      behind-lists (chroma && not from-luma.value) s from-luma.next layout from-luma.value (h (chroma && not from-luma.value) from-luma.next)
+      behind_lists (chroma && not from-luma.value) s from-luma.next layout from-luma.value (h (chroma && not from-luma.value) from-luma.next)

@@ -24,7 +24,7 @@ use Rattle.film_grain.specs.Points.{PointLists, PointsRead, no_points, point, po
 use Rattle.film_grain.specs.Promises.{position_at, value_at, PointList, GrainLists}
 use Rattle.film_grain.specs.declared.FilmGrainRead.{FilmGrainRead}
 use Rattle.film_grain.specs.declared.PlanePoints.{PlanePoints}
-use Rattle.film_grain.proofs.Answers.{neither, AcceptedWith, of-answers}
+use Rattle.film_grain.proofs.Answers.{neither, AcceptedWith, of_answers}
 
 empty : PointList 0 (record { points = replicate 28 0 })
 empty =
@@ -165,5 +165,5 @@ module _ (chroma : Bool) (s : List ℕ) (p : Place) (whole : (point_lists chroma
 -- the point lists of every reading are what the request says
 pub grain_lists : (s : List ℕ) (p : Place) (layout : PixelLayout) → GrainLists (parse_film_grain_data s p layout).fgd
 grain_lists s p layout =
-    of-answers (λ (r : FilmGrainRead). GrainLists r.fgd) (λ q. record { luma = empty; chroma_u = empty; chroma_v = empty }) s p layout
+    of_answers (λ (r : FilmGrainRead). GrainLists r.fgd) (λ q. record { luma = empty; chroma_u = empty; chroma_v = empty }) s p layout
     (λ chroma q l e f r a. three chroma s q (sym (ap (λ (x : PointLists). x.refused) e) ∙ f) r (subst (λ (x : PointLists). AcceptedWith x r) e a))

@@ -63,9 +63,9 @@ plane_coeffs from-luma num_points_lem lag s p =
 unfoldable pub offsets_if : Bool → List ℕ → Place → OffsetsRead
 offsets_if true s p =
     then (bits_less s p 8 128) λ mult.
-    then (bits_less s mult.next 8 128) λ luma-mult.
-    then (bits_less s luma-mult.next 9 256) λ offset.
-    record { mult = mult.value; luma_mult = luma-mult.value; offset = offset.value; next = offset.next }
+    then (bits_less s mult.next 8 128) λ luma_mult.
+    then (bits_less s luma_mult.next 9 256) λ offset.
+    record { mult = mult.value; luma_mult = luma_mult.value; offset = offset.value; next = offset.next }
 offsets_if false s p = record { mult = pos 0; luma_mult = pos 0; offset = pos 0; next = p }
 
 -- the offsets of the chroma planes that have points

@@ -67,9 +67,9 @@ module _ (t : TileInfo) (b : Buffers) (cols : length t.col_start_sb ≡ 65) (row
         rows = over_long t.row_start_sb (drop 65 b.row_starts_lem) 65 rows;
       })
 
-  pub put-room : has_room (put_layout t b) ≡ true
+  pub put_room : has_room (put_layout t b) ≡ true
   unfolding put_layout
-  put-room = ap has_room (taken (has_room b) after b h) ∙ roomy
+  put_room = ap has_room (taken (has_room b) after b h) ∙ roomy
 
   pub comes_back : layout_in (put_layout t b) ≡ t
   unfolding put_layout layout_in
@@ -99,8 +99,8 @@ module _ (xs old : List ℕ) (room : 65 ≤ length old) (e : xs ≡ over_front 6
   over_zeros : xs ≡ replicate 65 0 ++ drop 65 old
   over_zeros = e ∙ taken _ _ _ (le-leb 65 (length old) room)
 
-  pub cleared-rest : drop 65 xs ≡ drop 65 old
-  cleared-rest = ap (drop 65) over_zeros ∙ drop-append_seam (replicate 65 0) (drop 65 old)
+  pub cleared_rest : drop 65 xs ≡ drop 65 old
+  cleared_rest = ap (drop 65) over_zeros ∙ drop-append_seam (replicate 65 0) (drop 65 old)
 
-  pub cleared-front : xs ≡ replicate 65 0 ++ drop 65 xs
-  cleared-front = over_zeros ∙ ap (λ (l : List ℕ). replicate 65 0 ++ l) (sym cleared-rest)
+  pub cleared_front : xs ≡ replicate 65 0 ++ drop 65 xs
+  cleared_front = over_zeros ∙ ap (λ (l : List ℕ). replicate 65 0 ++ l) (sym cleared_rest)

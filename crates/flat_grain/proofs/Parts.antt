@@ -52,9 +52,9 @@ module _ (fgd : FilmGrainData) (rest : List ℤ) (full : (pl : ℕ) → pl < 3 �
       ap {B = PlanePoints} (λ (l : List ℤ). record { points = map nat_abs l }) (part (flat_film_grain fgd ++ rest) a b c n (numbers ∙ e) h k ∙ m)
       ∙ ap {B = PlanePoints} (λ (l : List ℕ). record { points = l }) (magnitudes list.points)
 
-  pub has-lists : HasLists (flat_film_grain fgd ++ rest) fgd
+  pub has_lists : HasLists (flat_film_grain fgd ++ rest) fgd
   unfolding flat_film_grain y u v
-  has-lists =
+  has_lists =
       record {
         count = three (λ (pl : ℕ). num_points_in (flat_film_grain fgd ++ rest) pl ≡ num_points fgd pl) refl refl refl;
         list =

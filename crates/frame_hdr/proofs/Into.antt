@@ -74,8 +74,8 @@ module _ (s : List ℕ) (p : Place) (h : FrameHeader) (a : TileArgs) (b : Buffer
       (o ≡ record { answer = read.answer; sb128 = pick refused h.sb128 a.frame_code; next = read.next })
       × (after ≡ pick refused b (put_layout read.info b))
 
-  pub fresh-into : (o : FrameOutcome) (after : Buffers) → Fresh o after (is_refusal read.answer) → (o, after) ≡ frame_into (fresh_layout s p h a) b
-  fresh-into o after e = by (is_refusal read.answer) refl e ∙ ap (λ (z : FrameRead). frame_into z b) (sym meant)
+  pub fresh_into : (o : FrameOutcome) (after : Buffers) → Fresh o after (is_refusal read.answer) → (o, after) ≡ frame_into (fresh_layout s p h a) b
+  fresh_into o after e = by (is_refusal read.answer) refl e ∙ ap (λ (z : FrameRead). frame_into z b) (sym meant)
     where
       by : (t : Bool) → is_refusal read.answer ≡ t → Fresh o after t → (o, after) ≡ frame_into (framed read) b
       by true r e = rw r (pair e.0 e.1)
@@ -144,12 +144,12 @@ module _ (s : List ℕ) (p : Place) (h : FrameHeader) (q : SeqLayout) (b seq : B
       ap (λ (t : TileInfo). parse_tile_info_frmhdr s p (with_layout h h.sb128 t) (theirs q.max_width q.max_height)) holds
       ∙ ap (λ (t : TileInfo). parse_tile_info_frmhdr s p h (record { sb128 = q.sb128; max_width = q.max_width; max_height = q.max_height; level = q.level; tier = q.tier; present = q.present; t = t })) held
 
-  pub whole-frame : {width height widest highest : ℤ} {r : FrameOutcome} {t i : TileInfo} {x : FrameHeader}
+  pub whole_frame : {width height widest highest : ℤ} {r : FrameOutcome} {t i : TileInfo} {x : FrameHeader}
       → record { answer = r.answer; hdr = record { frame_type = h.frame_type; width = width; height = height; sb128 = r.sb128; tiling = t }; next = r.next }
       ≡ parse_tile_info_frmhdr s p (own width height) (theirs widest highest)
       → width ≡ h.width → height ≡ h.height → widest ≡ q.max_width → highest ≡ q.max_height
       → i ≡ t → x ≡ with_layout h r.sb128 i
       → let z : FrameRead = record { answer = r.answer; hdr = x; next = r.next } in (z ≡ parse_tile_info_frmhdr s p h q) × FrameLayout s p h q z
-  whole-frame {r = r} into w e m n back with_it =
+  whole_frame {r = r} into w e m n back with_it =
       let z = ap (λ (x : FrameHeader). record { answer = r.answer; hdr = x; next = r.next }) (with_it ∙ ap (with_layout h r.sb128) back) ∙ rw (w, e, m, n) at into ∙ same in
       (z, subst (FrameLayout s p h q) (sym z) (frame_promised s p h q))

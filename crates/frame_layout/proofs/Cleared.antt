@@ -11,7 +11,7 @@ use Rattle.tile_layout.specs.Layout.{tabulate}
 use Rattle.tile_layout.specs.Cleared.{Cleared, ReadOver}
 use Rattle.tile_layout.specs.declared.TileArgs.{TileArgs}
 use Rattle.tile_layout.specs.declared.TileInfo.{TileInfo}
-use Rattle.tile_layout.proofs.Cleared.{accepted-over, refused_over, read_over_lem}
+use Rattle.tile_layout.proofs.Cleared.{accepted_over, refused_over, read_over_lem}
 use Rattle.tile_layout.proofs.Laws.{length_tabulate, behind_closing}
 use Rattle.frame_layout.specs.Frame.{frame_args, read_reuse, reused_starts, reused_info, fresh_layout, in_frame_domain, parse_tile_info_frmhdr, frame_tiles, FrameLayout}
 use Rattle.frame_layout.proofs.Fresh.{fresh_demand_3}
@@ -44,7 +44,7 @@ unfolding parse_tile_info_frmhdr then
 frame_over s p h q =
     let a = frame_args h q in
     picked (Over h) (in_frame_domain h q) _ _
-    (λ _. picked (Over h) (read_reuse s p a q).value _ _ (λ _. accepted-over _ refl (reused_cleared a q.t)) (λ _. fresh_over s _ h a))
+    (λ _. picked (Over h) (read_reuse s p a q).value _ _ (λ _. accepted_over _ refl (reused_cleared a q.t)) (λ _. fresh_over s _ h a))
     (λ _. refused_over _ refl refl)
 
 pub frame_promised : (s : List ℕ) (p : Place) (h : FrameHeader) (q : SeqLayout) → FrameLayout s p h q (parse_tile_info_frmhdr s p h q)

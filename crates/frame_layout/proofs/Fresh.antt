@@ -10,12 +10,12 @@ use Rattle.tile_layout.specs.Layout.{parse_tile_info}
 use Rattle.tile_layout.specs.Demand3.{Demand3}
 use Rattle.tile_layout.specs.declared.TileArgs.{TileArgs}
 use Rattle.tile_layout.specs.declared.TileRead.{TileRead}
-use Rattle.tile_layout.proofs.Demand3.{demand-3}
+use Rattle.tile_layout.proofs.Demand3.{demand_3}
 use Rattle.frame_layout.specs.Frame.{frame_args, read_reuse, with_layout, fresh_layout, parse_tile_info_frmhdr, frame_tiles, FreshDemand3}
 use Rattle.frame_layout.specs.declared.FrameHeader.{FrameHeader}
 use Rattle.frame_layout.specs.declared.FrameRead.{FrameRead}
 use Rattle.frame_layout.specs.declared.SeqLayout.{SeqLayout}
-use Rattle.frame_layout.proofs.Usable.{frame-in-domain}
+use Rattle.frame_layout.proofs.Usable.{frame_in_domain}
 
 -- what holds of the layout read holds of the frame's answer
 carried : (s : List ℕ) (p : Place) (h : FrameHeader) (a : TileArgs) (z : TileRead) → Demand3 s p a z
@@ -36,4 +36,4 @@ fresh_demand_3 s p h q d f =
     let z = parse_tile_info s next h.tiling a in
     subst (λ (r : FrameRead). Demand3 s next a (frame_tiles r))
     (sym (taken _ _ _ d ∙ through _ _ refl ∙ through _ _ refl ∙ left _ _ _ f ∙ through _ _ refl))
-    (carried s next h a z (demand-3 s next h.tiling a (frame-in-domain h q d)))
+    (carried s next h a z (demand_3 s next h.tiling a (frame_in_domain h q d)))

@@ -107,18 +107,18 @@ pair Switch (suc (suc zero)) h = inl (omega arith, refl, refl)
 pair f (suc (suc (suc q))) h = absurd (omega arith)
 
 module _ (h : FrameHeader) (q : SeqLayout) (e : in_frame_domain h q ≡ true) where
-  pub frame-usable : usable q ≡ true
+  pub frame_usable : usable q ≡ true
   unfolding in_frame_domain
-  frame-usable = (both (is_size (unsigned h.width) && is_size (unsigned h.height)) (usable q) e).1
+  frame_usable = (both (is_size (unsigned h.width) && is_size (unsigned h.height)) (usable q) e).1
 
   -- a layout is read for arguments in the domain
-  pub frame-in-domain : in_domain (frame_args h q) ≡ true
+  pub frame_in_domain : in_domain (frame_args h q) ≡ true
   unfolding in_frame_domain
-  frame-in-domain =
+  frame_in_domain =
       let s = both (is_size (unsigned h.width)) (is_size (unsigned h.height)) (both (is_size (unsigned h.width) && is_size (unsigned h.height)) (usable q) e).0 in
       let w = sized (unsigned h.width) s.0 in
       let v = sized (unsigned h.height) s.1 in
-      let u = known q frame-usable in
+      let u = known q frame_usable in
       in_domain_lem (frame_args h q)
       (record {
         some_width = w.0;

@@ -16,7 +16,7 @@ use Rattle.getbits.specs.declared.Place.{Place}
 use Rattle.getbits.specs.declared.Number.{Number}
 use Rattle.getbits.proofs.Chain.{picked}
 use Rattle.getbits.proofs.Fields.{bits_lt, bits_add, bits_one, bit_past}
-use Rattle.getbits.proofs.Places.{lt_or_le, pos-le, pos_at, read_short}
+use Rattle.getbits.proofs.Places.{lt_or_le, pos_le, pos_at, read_short}
 
 -- a width of at most 32 is read, and a larger one refused
 pub width_in : (s : List ℕ) (p : Place) (n : ℕ) → n ≤ 32 → read_bits s p n ≡ get_bits s p (pos n)
@@ -34,7 +34,7 @@ as_read s p n h e = e ∙ sym (width_in s p n h)
 -- no bits: 0, and the place as it is
 pub read_none : (s : List ℕ) (p : Place) → read_bits s p 0 ≡ record { value = 0; next = settled s p }
 unfolding read_bits bits_at
-read_none s p = rw (add-zero, le-leb (position s p) (bit_count s) (pos-le s p))
+read_none s p = rw (add-zero, le-leb (position s p) (bit_count s) (pos_le s p))
 
 -- n bits that are there
 pub read_there : (s : List ℕ) (p : Place) (n : ℕ) → position s p + n ≤ bit_count s
@@ -126,12 +126,12 @@ read_clean s p n =
 -- a place that counts as the end reads as the end does
 pub read_settled : (s : List ℕ) (p : Place) (n : ℕ) → read_bits s (settled s p) n ≡ read_bits s p n
 unfolding read_bits
-read_settled s p n = rw (pos_at s (position s p) p.error (pos-le s p))
+read_settled s p n = rw (pos_at s (position s p) p.error (pos_le s p))
 
 -- the Rust's byte position is within the data
 pub byte_pos_le : (s : List ℕ) (p : Place) → byte_pos s p ≤ length s
 unfolding byte_pos
-byte_pos_le s p = omega (arith, pos-le s p)
+byte_pos_le s p = omega (arith, pos_le s p)
 
 -- the same bits write the same number
 pub bits_local : (s t : List ℕ) (i n : ℕ) → ((k : ℕ) → k < n → bit_at s (i + k) ≡ bit_at t (i + k)) → bits_at s i n ≡ bits_at t i n

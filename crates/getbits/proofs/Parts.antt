@@ -32,20 +32,20 @@ skip_there s p n h e = e ∙ ap (λ (x : Number). x.next) (read_there s p n h)
 
 -- m bits and then n, which w has side by side, behind a place
 module _ (s : List ℕ) (p : Place) (m n w : ℕ) (room : position s p + (m + n) ≤ bit_count s) (e : w ≡ bits_at s (position s p) (m + n)) where
-  pub first-bits : w / 2 ^ n ≡ bits_at s (position s p) m
-  first-bits = rw (e, bits_add s (position s p) m n) (high (bits_at s (position s p) m) n (bits_lt s (position s p + m) n))
+  pub first_bits : w / 2 ^ n ≡ bits_at s (position s p) m
+  first_bits = rw (e, bits_add s (position s p) m n) (high (bits_at s (position s p) m) n (bits_lt s (position s p + m) n))
 
-  pub last-bits : w % 2 ^ n ≡ bits_at s (position s p + m) n
-  last-bits = rw (e, bits_add s (position s p) m n) (low (bits_at s (position s p) m) n (bits_lt s (position s p + m) n))
+  pub last_bits : w % 2 ^ n ≡ bits_at s (position s p + m) n
+  last_bits = rw (e, bits_add s (position s p) m n) (low (bits_at s (position s p) m) n (bits_lt s (position s p + m) n))
 
   pub first_read : m ≤ 32 → get_bits s p (pos m) ≡ record { value = w / 2 ^ n; next = place_at (position s p + m) p.error }
-  first_read h = sym (width_in s p m h) ∙ read_there s p m (omega arith) ∙ rw first-bits
+  first_read h = sym (width_in s p m h) ∙ read_there s p m (omega arith) ∙ rw first_bits
 
-  pub last-read : n ≤ 32 → get_bits s (place_at (position s p + m) p.error) (pos n) ≡ record { value = w % 2 ^ n; next = place_at (position s p + (m + n)) p.error }
-  last-read h =
+  pub last_read : n ≤ 32 → get_bits s (place_at (position s p + m) p.error) (pos n) ≡ record { value = w % 2 ^ n; next = place_at (position s p + (m + n)) p.error }
+  last_read h =
       let q = place_at (position s p + m) p.error in
       let at : position s q ≡ position s p + m = pos_at s (position s p + m) p.error (omega arith) in
-      sym (width_in s q n h) ∙ read_there s q n (omega (arith, at)) ∙ rw (at, last-bits, add_assoc (position s p) m n)
+      sym (width_in s q n h) ∙ read_there s q n (omega (arith, at)) ∙ rw (at, last_bits, add_assoc (position s p) m n)
 
 -- the n bits behind the first u of the t that w has, which a shift moves to the front
 pub shifted_bits : (s : List ℕ) (i u n t : ℕ) {w : ℕ} → u + n ≤ t → w ≡ bits_at s i t → w * 2 ^ u % 2 ^ t / 2 ^ (t - n) ≡ bits_at s (i + u) n

@@ -20,29 +20,29 @@ lt_or_le zero (suc b) = inl (omega arith)
 lt_or_le (suc a) (suc b) = ⊎_elim (λ p. inl (suc-le-suc p)) (λ q. inr (suc-le-suc q)) (lt_or_le a b)
 
 module _ (s : List ℕ) (p : Place) where
-  pub pos-in : p.byte < length s → p.used < 8 → position s p ≡ 8 * p.byte + p.used
+  pub pos_in : p.byte < length s → p.used < 8 → position s p ≡ 8 * p.byte + p.used
   unfolding position
-  pos-in h k = rw (lt-ltb _ _ k) (omega arith)
+  pos_in h k = rw (lt-ltb _ _ k) (omega arith)
 
-  pub pos-past : length s ≤ p.byte → position s p ≡ bit_count s
+  pub pos_past : length s ≤ p.byte → position s p ≡ bit_count s
   unfolding position
-  pos-past h = ⊎_elim (λ k. rw (lt-ltb p.used 8 k) (omega arith)) (λ k. rw (le-ltb p.used 8 k)) (lt_or_le p.used 8)
+  pos_past h = ⊎_elim (λ k. rw (lt-ltb p.used 8 k) (omega arith)) (λ k. rw (le-ltb p.used 8 k)) (lt_or_le p.used 8)
 
-  pub pos-over : 8 ≤ p.used → position s p ≡ bit_count s
+  pub pos_over : 8 ≤ p.used → position s p ≡ bit_count s
   unfolding position
-  pos-over h = rw (le-ltb _ _ h)
+  pos_over h = rw (le-ltb _ _ h)
 
   -- a place before the end has a byte, and bits of it left
-  pub pos-before : position s p < bit_count s → (p.byte < length s) × (p.used < 8)
-  pos-before h = (
-    ⊎_elim (λ a. a) (λ a. absurd (omega (arith, pos-past a))) (lt_or_le p.byte (length s)),
-    ⊎_elim (λ a. a) (λ a. absurd (omega (arith, pos-over a))) (lt_or_le p.used 8),
+  pub pos_before : position s p < bit_count s → (p.byte < length s) × (p.used < 8)
+  pos_before h = (
+    ⊎_elim (λ a. a) (λ a. absurd (omega (arith, pos_past a))) (lt_or_le p.byte (length s)),
+    ⊎_elim (λ a. a) (λ a. absurd (omega (arith, pos_over a))) (lt_or_le p.used 8),
   )
 
   -- a place stands within the data
-  pub pos-le : position s p ≤ bit_count s
+  pub pos_le : position s p ≤ bit_count s
   unfolding position
-  pos-le =
+  pos_le =
       picked (λ (k : ℕ). k ≤ bit_count s) (ltb p.used 8) (min (8 * p.byte + p.used) (bit_count s)) (bit_count s) (λ _. omega arith) (λ _. le_refl (bit_count s))
 
 -- the place with k bits before it has k bits before it
@@ -64,7 +64,7 @@ pub ran_out : (s : List ℕ) → record { value = 0; next = record { byte = leng
 ran_out s = ap (λ (q : Place). record { value = 0; next = q }) (place_end s true)
 
 pub settled_in : (s : List ℕ) (p : Place) → p.byte < length s → p.used < 8 → p ≡ settled s p
-settled_in s p h k = place_at_lem p.byte p.used (position s p) p.error (sym (pos-in s p h k)) k
+settled_in s p h k = place_at_lem p.byte p.used (position s p) p.error (sym (pos_in s p h k)) k
 
 pub settled_end : (s : List ℕ) (p : Place) → position s p ≡ bit_count s → record { byte = length s; used = 0; error = p.error } ≡ settled s p
 settled_end s p h = rw h (place_end s p.error)
@@ -88,7 +88,7 @@ pub read_one : (s : List ℕ) (p : Place) {v b u : ℕ}
     → p.byte < length s → p.used < 8 → v ≡ get_or s p.byte 0 / 2 ^ (7 - p.used) % 2 → 8 * b + u ≡ 8 * p.byte + p.used + 1 → u < 8
     → record { value = v; next = record { byte = b; used = u; error = p.error } } ≡ read_bits s p 1
 read_one s p h k e f g =
-    let at = pos-in s p h k in
+    let at = pos_in s p h k in
     read_in s p 1 (omega (arith, at)) (e ∙ sym (bits_one s _ ∙ ap (bit_at s) at ∙ bit_of_lem s p.byte p.used k)) (omega (arith, at)) g refl
 
 -- the bits behind a settled place are the reading

@@ -13,7 +13,7 @@ use Rattle.getbits.specs.declared.Place.{Place}
 use Rattle.getbits.specs.declared.Number.{Number}
 use Rattle.getbits.specs.declared.Signed.{Signed}
 use Rattle.getbits.specs.declared.Flag.{Flag}
-use Rattle.getbits.proofs.Places.{pos-le, pos_at}
+use Rattle.getbits.proofs.Places.{pos_le, pos_at}
 use Rattle.getbits.proofs.Callers.{read_pos, read_error, read_clean, read_there, bits_local}
 use Rattle.codes.specs.Codes.{plus, run_of, get_vlc, bit_length, get_uniform, get_ref_uniform, failed, uleb_from, get_uleb128, get_golomb, subexp_from, inv_recenter, subexp_args, get_bits_subexp_u, subexp_range, get_bits_subexp, vlc_if, uniform_if}
 use Rattle.laws.specs.Sound.{Agree, Sound}
@@ -35,8 +35,8 @@ next r = r.next
 pub sound_bits : (n : ℕ) → Sound next (λ s p. read_bits s p n)
 sound_bits n =
     record {
-      forward = λ s p. omega (arith, read_pos s p n, pos-le s p);
-      within = λ s p. pos-le s (read_bits s p n).next;
+      forward = λ s p. omega (arith, read_pos s p n, pos_le s p);
+      within = λ s p. pos_le s (read_bits s p n).next;
       kept = λ s p. read_error s p n;
       local = λ s t p e at a.
           let c = read_clean s p n e in
@@ -56,7 +56,7 @@ pub sound_here : {R : Type 0} (after : R → Place) (h : Place → R) → ((p : 
 sound_here after h e =
     record {
       forward = λ s p. rw (e p) (le_refl (position s p));
-      within = λ s p. pos-le s (after (h p));
+      within = λ s p. pos_le s (after (h p));
       kept = λ s p k. rw (e p) k;
       local = λ s t p _ _ _. refl;
       steady = λ s t p _ at _. rw (e p) at;
@@ -65,19 +65,19 @@ sound_here after h e =
 pub sound_unread : (v : ℕ) → Sound next (λ s p. record { value = v; next = settled s p })
 sound_unread v =
     record {
-      forward = λ s p. rw (pos_at s (position s p) p.error (pos-le s p)) (le_refl (position s p));
-      within = λ s p. pos-le s (settled s p);
+      forward = λ s p. rw (pos_at s (position s p) p.error (pos_le s p)) (le_refl (position s p));
+      within = λ s p. pos_le s (settled s p);
       kept = λ s p k. k;
       local = λ s t p _ at _. ap (λ (k : ℕ). record { value = v; next = place_at k p.error }) at;
       steady = λ s t p _ at a.
-          pos_at t (position s p) p.error (rw at at (pos-le t p)) ∙ sym (pos_at s (position s p) p.error (pos-le s p));
+          pos_at t (position s p) p.error (rw at at (pos_le t p)) ∙ sym (pos_at s (position s p) p.error (pos_le s p));
     }
 
 pub sound_refused : Sound next (λ s p. refused s p)
 sound_refused =
     record {
-      forward = λ s p. rw (pos_at s (position s p) true (pos-le s p)) (le_refl (position s p));
-      within = λ s p. pos-le s (refused s p).next;
+      forward = λ s p. rw (pos_at s (position s p) true (pos_le s p)) (le_refl (position s p));
+      within = λ s p. pos_le s (refused s p).next;
       kept = λ s p k. refl;
       local = λ s t p e _ _. absurd (subst T e tt);
       steady = λ s t p e _ _. absurd (subst T e tt);
@@ -117,7 +117,7 @@ pub sound_map : {R S : Type 0} (ahead : R → Place) (after : S → Place) (f : 
 sound_map ahead after f h e F =
     record {
       forward = λ s p. rw (e (f s p)) (F.forward s p);
-      within = λ s p. pos-le s (after (h (f s p)));
+      within = λ s p. pos_le s (after (h (f s p)));
       kept = λ s p k. rw (e (f s p)) (F.kept s p k);
       local = λ s t p c at a. ap h (F.local s t p (rw (e (f s p)) at c) at (rw (e (f s p)) at a));
       steady = λ s t p c at a. rw (e (f s p)) (F.steady s t p (rw (e (f s p)) at c) at (rw (e (f s p)) at a));
@@ -129,7 +129,7 @@ unfolding position
 sound_failed =
     record {
       forward = λ s p. le_refl (position s p);
-      within = λ s p. pos-le s p;
+      within = λ s p. pos_le s p;
       kept = λ s p k. refl;
       local = λ s t p e _ _. absurd (subst T e tt);
       steady = λ s t p e _ _. absurd (subst T e tt);

@@ -34,23 +34,23 @@ in_log s p least most = record { low = (log_read s p least most).0; high = (log_
 -- ---- behind the flag: the logarithms
 
 module _ (s : List ℕ) (p : Place) (a : TileArgs) where
-  logs-known : (old : TileInfo) → Readable old a (uniform_layout s p a).info
+  logs_known : (old : TileInfo) → Readable old a (uniform_layout s p a).info
   unfolding uniform_layout then
-  logs-known old =
+  logs_known old =
       let c = read_log2 s p (min_log2_cols a) (max_log2_cols a) in
       even c.value (read_log2 s c.next (min_log2_tiles a - c.value) (max_log2_rows a)).value (in_log s p _ _) (in_log s c.next _ _) refl
 
-  logs-used : (let r = uniform_layout s p a in r.next.error ≡ false → Used s p r.next (logs_code r.info))
+  logs_used : (let r = uniform_layout s p a in r.next.error ≡ false → Used s p r.next (logs_code r.info))
   unfolding uniform_layout uniform_info logs_code then
-  logs-used e =
+  logs_used e =
       let c = read_log2 s p (min_log2_cols a) (max_log2_cols a) in
       let r = (code_log (min_log2_tiles a - c.value) (max_log2_rows a)).used s c.next e in
       on _ _ ((code_log (min_log2_cols a) (max_log2_cols a)).used s p (sym r.error ∙ e)) r
 
-  logs-read : (c r : ℕ) → InLog (min_log2_cols a) (max_log2_cols a) c → InLog (min_log2_tiles a - c) (max_log2_rows a) r → StandsAt s (position s p) (logs_code (uniform_info a c r))
+  logs_read : (c r : ℕ) → InLog (min_log2_cols a) (max_log2_cols a) c → InLog (min_log2_tiles a - c) (max_log2_rows a) r → StandsAt s (position s p) (logs_code (uniform_info a c r))
       → ReadAs s p (uniform_info a c r) (logs_code (uniform_info a c r)) (uniform_layout s p a)
   unfolding uniform_layout uniform_info logs_code then
-  logs-read c r g h st =
+  logs_read c r g h st =
       let x = log_code (min_log2_cols a) (max_log2_cols a) c in
       let y = log_code (min_log2_tiles a - c) (max_log2_rows a) r in
       let u = (code_log (min_log2_cols a) (max_log2_cols a)).reads s p c g (split x y st).0 in
@@ -63,24 +63,24 @@ filled : {whole limit : ℕ} {zs : List ℕ} → Sized 64 whole limit zs → who
 filled z h = record { few = z.few; adds = omega (arith, z.inside); each = z.each }
 
 module _ (old : TileInfo) (a : TileArgs) (w h : List ℕ) where
-  col-sizes : sum w ≡ sbw a → col_sizes (non_uniform_info a old w h) ≡ w
+  col_sizes_lem : sum w ≡ sbw a → col_sizes (non_uniform_info a old w h) ≡ w
   unfolding non_uniform_info
-  col-sizes e =
+  col_sizes_lem e =
       tabulated _ 0 w (λ k l.
       let q : 0 + k ≡ k = omega arith in
       rw q (omega (arith, gap w (sbw a) e k l)))
 
-  row-sizes : sum h ≡ sbh a → row_sizes (non_uniform_info a old w h) ≡ h
+  row_sizes_lem : sum h ≡ sbh a → row_sizes (non_uniform_info a old w h) ≡ h
   unfolding non_uniform_info
-  row-sizes e =
+  row_sizes_lem e =
       tabulated _ 0 h (λ k l.
       let q : 0 + k ≡ k = omega arith in
       rw q (omega (arith, gap h (sbh a) e k l)))
 
   -- the bits of the record are the bits of the sizes
-  pub sides-are : sum w ≡ sbw a → sum h ≡ sbh a → layout_bits a (non_uniform_info a old w h) ≡ 0 ∷ sides_code a w h
+  pub sides_are : sum w ≡ sbw a → sum h ≡ sbh a → layout_bits a (non_uniform_info a old w h) ≡ 0 ∷ sides_code a w h
   unfolding layout_bits non_uniform_info
-  sides-are e f = rw (col-sizes e, row-sizes f)
+  sides_are e f = rw (col_sizes_lem e, row_sizes_lem f)
 
 module _ (s : List ℕ) (p : Place) (old : TileInfo) (a : TileArgs) (d : InDomain a) where
   abbrev cols : Sizes
@@ -89,28 +89,28 @@ module _ (s : List ℕ) (p : Place) (old : TileInfo) (a : TileArgs) (d : InDomai
   abbrev rows : Sizes
   rows = read_rows s cols a
 
-  cols-sized : Sized 64 (sbw a) (width_limit a) cols.sizes
+  cols_sized : Sized 64 (sbw a) (width_limit a) cols.sizes
   unfolding read_cols
-  cols-sized = sizes_read 64 s _ (sbw a) (width_limit a) (omega (arith, (limits a d).some))
+  cols_sized = sizes_read 64 s _ (sbw a) (width_limit a) (omega (arith, (limits a d).some))
 
-  some-row : (w : ℕ) → 1 ≤ row_limit a w
+  some_row : (w : ℕ) → 1 ≤ row_limit a w
   unfolding row_limit
-  some-row w = omega arith
+  some_row w = omega arith
 
-  rows-sized : Sized 64 (sbh a) (row_limit a (widest cols.sizes)) rows.sizes
+  rows_sized : Sized 64 (sbh a) (row_limit a (widest cols.sizes)) rows.sizes
   unfolding read_rows
-  rows-sized = sizes_read 64 s _ (sbh a) _ (some-row _)
+  rows_sized = sizes_read 64 s _ (sbh a) _ (some_row _)
 
-  sides-used : rows.next.error ≡ false → Used s p rows.next (sides_code a cols.sizes rows.sizes)
+  sides_used : rows.next.error ≡ false → Used s p rows.next (sides_code a cols.sizes rows.sizes)
   unfolding read_cols read_rows sides_code
-  sides-used e =
-      let r = sizes_used 64 s cols.next (sbh a) (row_limit a (widest cols.sizes)) (some-row _) (omega (arith, (down a d).most_all)) e in
+  sides_used e =
+      let r = sizes_used 64 s cols.next (sbh a) (row_limit a (widest cols.sizes)) (some_row _) (omega (arith, (down a d).most_all)) e in
       on _ _ (sizes_used 64 s p (sbw a) (width_limit a) (omega (arith, (limits a d).some)) (omega (arith, (across a d).most_all)) (sym r.error ∙ e)) r
 
-  sides-read : (w h : List ℕ) → Fills 64 (sbw a) (width_limit a) w → Fills 64 (sbh a) (row_limit a (widest w)) h → StandsAt s (position s p) (sides_code a w h)
+  sides_read : (w h : List ℕ) → Fills 64 (sbw a) (width_limit a) w → Fills 64 (sbh a) (row_limit a (widest w)) h → StandsAt s (position s p) (sides_code a w h)
       → ReadAs s p (non_uniform_info a old w h) (sides_code a w h) (non_uniform_layout s p old a)
   unfolding non_uniform_layout read_cols read_rows sides_code then
-  sides-read w h f g st =
+  sides_read w h f g st =
       let x = sizes_code (sbw a) (width_limit a) w in
       let y = sizes_code (sbh a) (row_limit a (widest w)) h in
       let u = sizes_reads 64 s p (sbw a) (width_limit a) w (omega (arith, (across a d).most_all)) f (split x y st).0 in
@@ -134,14 +134,14 @@ module _ (s : List ℕ) (p : Place) (old : TileInfo) (a : TileArgs) where
   abbrev Fine : TileRead → Type 0
   Fine r = Clean r → Readable old a r.info × Used s p r.next (layout_bits a r.info)
 
-  logs-fine : flag.value ≡ 1 → Fine (uniform_layout s flag.next a)
+  logs_fine : flag.value ≡ 1 → Fine (uniform_layout s flag.next a)
   unfolding layout_bits uniform_layout uniform_info then
-  logs-fine e c = (logs-known s flag.next a old, flagged _ e c.unset (logs-used s flag.next a c.unset))
+  logs_fine e c = (logs_known s flag.next a old, flagged _ e c.unset (logs_used s flag.next a c.unset))
 
   module _ (d : InDomain a) where
-    sides-fine : flag.value ≡ 0 → Fine (non_uniform_layout s flag.next old a)
+    sides_fine : flag.value ≡ 0 → Fine (non_uniform_layout s flag.next old a)
     unfolding non_uniform_layout then
-    sides-fine e =
+    sides_fine e =
         let n = flag.next in
         let c = read_cols s n a in
         let r = read_rows s c a in
@@ -151,15 +151,15 @@ module _ (s : List ℕ) (p : Place) (old : TileInfo) (a : TileArgs) where
         picked Fine (ltb (sum r.sizes) (sbh a)) _ _
         (λ _ no. absurd (subst T no.accepted tt))
         (λ g ok.
-        let w = filled (cols-sized s n old a d) (ltb-false (sum c.sizes) (sbw a) f) in
-        let h = filled (rows-sized s n old a d) (ltb-false (sum r.sizes) (sbh a) g) in (
+        let w = filled (cols_sized s n old a d) (ltb-false (sum c.sizes) (sbw a) f) in
+        let h = filled (rows_sized s n old a d) (ltb-false (sum r.sizes) (sbh a) g) in (
           sized c.sizes r.sizes w h refl,
-          rw (sides-are old a c.sizes r.sizes w.adds h.adds) (flagged _ e ok.unset (sides-used s n old a d ok.unset)),
+          rw (sides_are old a c.sizes r.sizes w.adds h.adds) (flagged _ e ok.unset (sides_used s n old a d ok.unset)),
         )))
 
-    parse-fine : Fine (pick (eqb flag.value 1) (uniform_layout s flag.next a) (non_uniform_layout s flag.next old a))
-    parse-fine =
-        picked Fine (eqb flag.value 1) _ _ (λ e. logs-fine (eqb-true _ _ e)) (λ e. sides-fine (omega (arith, bit_lt s p, eqb-false flag.value 1 e)))
+    parse_fine : Fine (pick (eqb flag.value 1) (uniform_layout s flag.next a) (non_uniform_layout s flag.next old a))
+    parse_fine =
+        picked Fine (eqb flag.value 1) _ _ (λ e. logs_fine (eqb-true _ _ e)) (λ e. sides_fine (omega (arith, bit_lt s p, eqb-false flag.value 1 e)))
 
     -- the flag, and what stands behind it
     module _ (b : ℕ) (rest : List ℕ) (b< : b < 2) (st : StandsAt s (position s p) (b ∷ rest)) where
@@ -171,22 +171,22 @@ module _ (s : List ℕ) (p : Place) (old : TileInfo) (a : TileArgs) where
           let r = f (behind rest flag_read.1 st) in
           record { accepted = r.accepted; gives = r.gives; just = on (b ∷ []) rest flag_read.1 r.just }
 
-    parse-read : (t : TileInfo) → Readable old a t → StandsAt s (position s p) (layout_bits a t)
+    parse_read : (t : TileInfo) → Readable old a t → StandsAt s (position s p) (layout_bits a t)
         → ReadAs s p t (layout_bits a t) (pick (eqb flag.value 1) (uniform_layout s flag.next a) (non_uniform_layout s flag.next old a))
-    parse-read t (even c r g h q) st =
+    parse_read t (even c r g h q) st =
         let l = ap (layout_bits a) q ∙ logs_are a c r in
         let f = (flag_read 1 _ (omega arith) (rw l at st)).0 in
-        rw (l, q, eq-eqb flag.value 1 f) (after 1 _ (omega arith) (rw l at st) (logs-read s flag.next a c r g h))
-    parse-read t (sized w h f g q) st =
-        let l = ap (layout_bits a) q ∙ sides-are old a w h f.adds g.adds in
+        rw (l, q, eq-eqb flag.value 1 f) (after 1 _ (omega arith) (rw l at st) (logs_read s flag.next a c r g h))
+    parse_read t (sized w h f g q) st =
+        let l = ap (layout_bits a) q ∙ sides_are old a w h f.adds g.adds in
         let b = (flag_read 0 _ (omega arith) (rw l at st)).0 in
-        rw (l, q, ne_eqb flag.value 1 (omega arith)) (after 0 _ (omega arith) (rw l at st) (sides-read s flag.next old a d w h f g))
+        rw (l, q, ne_eqb flag.value 1 (omega arith)) (after 0 _ (omega arith) (rw l at st) (sides_read s flag.next old a d w h f g))
 
 pub layout_code : LayoutCode
 unfolding parse_tile_info get_flag then
 layout_code =
     record {
       used = λ s p old a.
-          picked (Fine s p old a) (in_domain a) _ _ (λ e. parse-fine s p old a (domain a e)) (λ _ no. absurd (subst T no.accepted tt));
-      reads = λ s p old a t e k st. rw e (parse-read s p old a (domain a e) t k st);
+          picked (Fine s p old a) (in_domain a) _ _ (λ e. parse_fine s p old a (domain a e)) (λ _ no. absurd (subst T no.accepted tt));
+      reads = λ s p old a t e k st. rw e (parse_read s p old a (domain a e) t k st);
     }

@@ -20,7 +20,7 @@ use Rattle.tile_layout.proofs.Area.{max_cols, max_rows}
 use Rattle.layout_bits.specs.Bits.{shorter, uniform_code, ones_code, log_code, sizes_code, logs_code, sides_code, layout_bits}
 use Rattle.layout_bits.specs.Readable.{Readable, even, sized}
 use Rattle.layout_bits.proofs.Numbers.{length_bits}
-use Rattle.layout_bits.proofs.Layouts.{logs_are, sides-are}
+use Rattle.layout_bits.proofs.Layouts.{logs_are, sides_are}
 
 -- a number below 2 ^ n has at most n bits
 uniform_length : (n max v : ℕ) → max < 2 ^ n → n ≤ 31 → length (uniform_code max v) ≤ n
@@ -61,5 +61,5 @@ layout_length old a t d (even c r g h q) =
 layout_length old a t d (sized w h f g q) =
     let x = sizes_code (sbw a) (width_limit a) w in
     let y = sizes_code (sbh a) (row_limit a (widest w)) h in
-    rw (q, sides-are old a w h f.adds g.adds)
+    rw (q, sides_are old a w h f.adds g.adds)
     (omega (arith, length-append x y, sizes_length 11 (sbw a) (width_limit a) w (omega (arith, (across a d).most_all)) (omega arith), sizes_length 11 (sbh a) (row_limit a (widest w)) h (omega (arith, (down a d).most_all)) (omega arith), f.few, g.few))

@@ -13,7 +13,7 @@ use Rattle.getbits.specs.Bits.{bit_at, bits_at, bit_count, position, settled, re
 use Rattle.getbits.specs.Chain.{then}
 use Rattle.getbits.specs.declared.Place.{Place}
 use Rattle.getbits.specs.declared.Number.{Number}
-use Rattle.getbits.proofs.Places.{lt_or_le, pos-le, pos_at}
+use Rattle.getbits.proofs.Places.{lt_or_le, pos_le, pos_at}
 use Rattle.getbits.proofs.Callers.{read_there, read_clean, read_lt, bit_lt}
 use Rattle.codes.specs.Codes.{plus, run_of, bit_length, get_uniform}
 use Rattle.codes.proofs.Callers.{length_is}
@@ -106,20 +106,20 @@ unfolding uniform_code
 code_few max v h = rw (le-leb max 1 h)
 
 module _ (max v : ℕ) (lo : 1 < max) where
-  pub code-short : v < shorter max → uniform_code max v ≡ bits_of (bit_length max - 1) v
+  pub code_short : v < shorter max → uniform_code max v ≡ bits_of (bit_length max - 1) v
   unfolding uniform_code
-  code-short h = rw (lt-leb max 1 lo, lt-ltb v (shorter max) h)
+  code_short h = rw (lt-leb max 1 lo, lt-ltb v (shorter max) h)
 
-  pub code-later : shorter max ≤ v → uniform_code max v ≡ bits_of (bit_length max) (v + shorter max)
+  pub code_later : shorter max ≤ v → uniform_code max v ≡ bits_of (bit_length max) (v + shorter max)
   unfolding uniform_code
-  code-later h = rw (lt-leb max 1 lo, le-ltb v (shorter max) h) refl
+  code_later h = rw (lt-leb max 1 lo, le-ltb v (shorter max) h) refl
 
   -- the bits read first, and one more
-  code-long : 1 ≤ bit_length max → shorter max ≤ v → uniform_code max v ≡ bits_of (bit_length max - 1) ((v + shorter max) / 2) ++ ((v + shorter max) % 2 ∷ [])
+  code_long : 1 ≤ bit_length max → shorter max ≤ v → uniform_code max v ≡ bits_of (bit_length max - 1) ((v + shorter max) / 2) ++ ((v + shorter max) % 2 ∷ [])
   unfolding bits_of
-  code-long l h =
+  code_long l h =
       let e : bit_length max ≡ suc (bit_length max - 1) = omega arith in
-      code-later h ∙ ap (λ (n : ℕ). bits_of n (v + shorter max)) e
+      code_later h ∙ ap (λ (n : ℕ). bits_of n (v + shorter max)) e
 
 module _ (max : ℕ) (lo : 1 < max) (hi : max < 2 ^ 31) where
   abbrev l : ℕ
@@ -133,31 +133,31 @@ module _ (max : ℕ) (lo : 1 < max) (hi : max < 2 ^ 31) where
       let is = length_is max (omega arith) hi in
       (is.0, is.2, is.3, ap (λ (x : ℕ). 2 ^ x) (omega arith) ∙ pow-suc 2 (l - 1))
 
-  uniform-reads : (s : List ℕ) (p : Place) (v : ℕ) → v < max → StandsAt s (position s p) (uniform_code max v)
+  uniform_reads : (s : List ℕ) (p : Place) (v : ℕ) → v < max → StandsAt s (position s p) (uniform_code max v)
       → ((get_uniform s p max).value ≡ v) × Used s p (get_uniform s p max).next (uniform_code max v)
-  uniform-reads s p v h st =
+  uniform_reads s p v h st =
       ⊎_elim
       (λ g.
-      let c = code-short max v lo g in
+      let c = code_short max v lo g in
       let r = (code_bits (l - 1)).reads s p v (omega (arith, bounds)) (rw c at st) in
       rw (short s p max lo hi (rw r.0 g), c) r)
       (λ g.
       let w = (v + m) / 2 in
       let b = (v + m) % 2 in
-      let c : uniform_code max v ≡ bits_of (l - 1) w ++ (b ∷ []) = code-long max v lo bounds.0 g in
+      let c : uniform_code max v ≡ bits_of (l - 1) w ++ (b ∷ []) = code_long max v lo bounds.0 g in
       let r = (code_bits (l - 1)).reads s p w (omega (arith, bounds)) (split (bits_of (l - 1) w) (b ∷ []) (rw c at st)).0 in
       let z = code_bit.reads s (read_bits s p (l - 1)).next b (omega arith) (behind (b ∷ []) r.1 (rw c at st)) in
       rw (long s p max lo hi (rw r.0 (omega arith)), c) (omega (arith, r.0, z.0), on (bits_of (l - 1) w) (b ∷ []) r.1 z.1))
       (lt_or_le v m)
 
-  uniform-used : (s : List ℕ) (p : Place) → (get_uniform s p max).next.error ≡ false → Used s p (get_uniform s p max).next (uniform_code max (get_uniform s p max).value)
-  uniform-used s p e =
+  uniform_used : (s : List ℕ) (p : Place) → (get_uniform s p max).next.error ≡ false → Used s p (get_uniform s p max).next (uniform_code max (get_uniform s p max).value)
+  uniform_used s p e =
       let w = read_bits s p (l - 1) in
       let b = get_bit s w.next in
       ⊎_elim
       (λ g.
       let q = short s p max lo hi g in
-      rw (q, code-short max w.value lo g) ((code_bits (l - 1)).used s p (rw q at e)))
+      rw (q, code_short max w.value lo g) ((code_bits (l - 1)).used s p (rw q at e)))
       (λ g.
       let q = long s p max lo hi g in
       let z = code_bit.used s w.next (rw q at e) in
@@ -165,15 +165,15 @@ module _ (max : ℕ) (lo : 1 < max) (hi : max < 2 ^ 31) where
       let v = 2 * w.value - m + b.value in
       let d : (v + m) / 2 ≡ w.value = omega (arith, bit_lt s w.next) in
       let x : (v + m) % 2 ≡ b.value = omega (arith, bit_lt s w.next) in
-      rw (q, code-long max v lo bounds.0 (omega arith), d, x) (on (bits_of (l - 1) w.value) (b.value ∷ []) r z))
+      rw (q, code_long max v lo bounds.0 (omega arith), d, x) (on (bits_of (l - 1) w.value) (b.value ∷ []) r z))
       (lt_or_le w.value m)
 
 pub code_uniform : (max : ℕ) → 1 ≤ max → max < 2 ^ 31 → Code value next (λ s p. get_uniform s p max) (uniform_code max) (λ v. v < max)
 code_uniform max some hi =
     ⊎_elim
-    (λ lo. record { reads = uniform-reads max lo hi; used = uniform-used max lo hi })
+    (λ lo. record { reads = uniform_reads max lo hi; used = uniform_used max lo hi })
     (λ lo.
-    let still : (s : List ℕ) (p : Place) → position s (settled s p) ≡ position s p = λ s p. pos_at s (position s p) p.error (pos-le s p) in
+    let still : (s : List ℕ) (p : Place) → position s (settled s p) ≡ position s p = λ s p. pos_at s (position s p) p.error (pos_le s p) in
     record {
       reads = λ s p v h st. rw (few s p max lo, code_few max v lo) (omega arith, none (still s p) refl);
       used = λ s p e. rw (few s p max lo, code_few max 0 lo) (none (still s p) refl);
@@ -194,13 +194,13 @@ module _ (k : ℕ) (s : List ℕ) (p : Place) where
   abbrev bit : Number
   bit = get_bit s p
 
-  run-one : bit.value ≡ 1 → run_of 1 (suc k) s p ≡ plus 1 (run_of 1 k s bit.next)
+  run_one : bit.value ≡ 1 → run_of 1 (suc k) s p ≡ plus 1 (run_of 1 k s bit.next)
   unfolding run_of then
-  run-one e = rw (eq-eqb bit.value 1 e)
+  run_one e = rw (eq-eqb bit.value 1 e)
 
-  run-zero : bit.value ≡ 0 → run_of 1 (suc k) s p ≡ record { value = 0; next = bit.next }
+  run_zero : bit.value ≡ 0 → run_of 1 (suc k) s p ≡ record { value = 0; next = bit.next }
   unfolding run_of then
-  run-zero e = rw (ne_eqb bit.value 1 (omega arith))
+  run_zero e = rw (ne_eqb bit.value 1 (omega arith))
 
 ones_over : (s : List ℕ) (p : Place) → ((run_of 1 0 s p).value ≡ 0) × Used s p (run_of 1 0 s p).next (ones_code 0 (run_of 1 0 s p).value)
 unfolding run_of ones_code
@@ -212,12 +212,12 @@ ones_reads zero s p zero h st = ((ones_over s p).0, rw (ones_over s p).0 at (one
 ones_reads zero s p (suc n) h st = absurd (omega arith)
 ones_reads (suc k) s p zero h st =
     let r = code_bit.reads s p 0 (omega arith) (rw (ones_none k) at st) in
-    rw (run-zero k s p r.0, ones_none k) (refl, r.1)
+    rw (run_zero k s p r.0, ones_none k) (refl, r.1)
 ones_reads (suc k) s p (suc n) h st =
     let rest = ones_code k n in
     let r = code_bit.reads s p 1 (omega arith) (split (1 ∷ []) rest (rw (ones_more k n) at st)).0 in
     let z = ones_reads k s (get_bit s p).next n (omega arith) (behind rest r.1 (rw (ones_more k n) at st)) in
-    rw (run-one k s p r.0, ones_more k n) (omega (arith, z.0), on (1 ∷ []) rest r.1 z.1)
+    rw (run_one k s p r.0, ones_more k n) (omega (arith, z.0), on (1 ∷ []) rest r.1 z.1)
 
 ones_used : (k : ℕ) (s : List ℕ) (p : Place) → (run_of 1 k s p).next.error ≡ false → Used s p (run_of 1 k s p).next (ones_code k (run_of 1 k s p).value)
 ones_used zero s p e = (ones_over s p).1
@@ -227,11 +227,11 @@ ones_used (suc k) s p e =
     ⊎_elim
     (λ g.
     let zero_bit : b.value ≡ 0 = omega arith in
-    let q = run-zero k s p zero_bit in
+    let q = run_zero k s p zero_bit in
     rw (q, ones_none k) (rw zero_bit at (code_bit.used s p (rw q at e))))
     (λ g.
     let one_bit : b.value ≡ 1 = omega (arith, bit_lt s p) in
-    let q = run-one k s p one_bit in
+    let q = run_one k s p one_bit in
     let z = ones_used k s b.next (rw q at e) in
     let r = code_bit.used s p (sym z.error ∙ (rw q at e)) in
     let u : 1 + rest.value ≡ suc rest.value = omega arith in

@@ -54,8 +54,8 @@ module _ (row : List ℕ) (b : ℕ) where
       (lt_or_le i at)
 
   -- the bits of its byte
-  bit-there : (k : ℕ) → get_or (row ++ (b ∷ [])) (8 * (at / 8) + k) 0 ≡ get_or row (8 * (at / 8) + k) 0 + pick (eqb k (at % 8)) b 0
-  bit-there k =
+  bit_there : (k : ℕ) → get_or (row ++ (b ∷ [])) (8 * (at / 8) + k) 0 ≡ get_or row (8 * (at / 8) + k) 0 + pick (eqb k (at % 8)) b 0
+  bit_there k =
       picked (λ (x : ℕ). get_or (row ++ (b ∷ [])) (8 * (at / 8) + k) 0 ≡ get_or row (8 * (at / 8) + k) 0 + x) (eqb k (at % 8)) b 0
       (λ e.
       let q : 8 * (at / 8) + k ≡ at = omega (arith, eqb-true k (at % 8) e) in
@@ -64,11 +64,11 @@ module _ (row : List ℕ) (b : ℕ) where
       let q : 8 * (at / 8) + k ≡ at → ⊥ = λ d. eqb-false k (at % 8) e (omega arith) in
       other _ q ∙ omega arith)
 
-  byte-there : byte_of (λ k. get_or (row ++ (b ∷ [])) (8 * (at / 8) + k) 0) ≡ byte_of (λ k. get_or row (8 * (at / 8) + k) 0) + b * 2 ^ (7 - at % 8)
-  byte-there = (λ i. byte_of (λ k. bit-there k i)) ∙ raised (λ k. get_or row (8 * (at / 8) + k) 0) b (at % 8) (omega arith)
+  byte_there : byte_of (λ k. get_or (row ++ (b ∷ [])) (8 * (at / 8) + k) 0) ≡ byte_of (λ k. get_or row (8 * (at / 8) + k) 0) + b * 2 ^ (7 - at % 8)
+  byte_there = (λ i. byte_of (λ k. bit_there k i)) ∙ raised (λ k. get_or row (8 * (at / 8) + k) 0) b (at % 8) (omega arith)
 
-  byte-other : (j : ℕ) → (j ≡ at / 8 → ⊥) → byte_of (λ k. get_or (row ++ (b ∷ [])) (8 * j + k) 0) ≡ byte_of (λ k. get_or row (8 * j + k) 0)
-  byte-other j h =
+  byte_other : (j : ℕ) → (j ≡ at / 8 → ⊥) → byte_of (λ k. get_or (row ++ (b ∷ [])) (8 * j + k) 0) ≡ byte_of (λ k. get_or row (8 * j + k) 0)
+  byte_other j h =
       let o : (k : ℕ) → k < 8 → get_or (row ++ (b ∷ [])) (8 * j + k) 0 ≡ get_or row (8 * j + k) 0 = λ k l. other (8 * j + k) (λ e. h (omega arith)) in
       rw (o 0 (omega arith), o 1 (omega arith), o 2 (omega arith), o 3 (omega arith), o 4 (omega arith), o 5 (omega arith), o 6 (omega arith), o 7 (omega arith))
 
@@ -88,7 +88,7 @@ module _ (row : List ℕ) (bit v : ℕ) (at< : length row < 1416) (small : Small
   there =
       e
       ∙ ap (λ (x : ℕ). (x + bit * 2 ^ (7 - length row % 8)) % 256) (byte_at_lem 177 row i (omega arith))
-      ∙ ap (λ (x : ℕ). x % 256) (sym (byte-there row bit))
+      ∙ ap (λ (x : ℕ). x % 256) (sym (byte_there row bit))
       ∙ omega (arith, byte_lt (λ k. get_or more (8 * i + k) 0) (λ k. small.each _))
 
   same : (j : ℕ) → j < 177 → (t : Bool) → eqb j i ≡ t → get_or (set before i v) j 0 ≡ get_or (bytes_of 177 more) j 0
@@ -96,7 +96,7 @@ module _ (row : List ℕ) (bit v : ℕ) (at< : length row < 1416) (small : Small
       rw (eqb-true j i t) (get_or-set_same before i v 0 (omega (arith, bytes_length 177 row)) ∙ there ∙ sym (byte_at_lem 177 more i (omega arith)))
   same j h false t =
       let q = eqb-false j i t in
-      get_or-set_other before i j v 0 q ∙ byte_at_lem 177 row j h ∙ sym (byte-other row bit j q) ∙ sym (byte_at_lem 177 more j h)
+      get_or-set_other before i j v 0 q ∙ byte_at_lem 177 row j h ∙ sym (byte_other row bit j q) ∙ sym (byte_at_lem 177 more j h)
 
   stored : set before i v ≡ bytes_of 177 more
   stored =

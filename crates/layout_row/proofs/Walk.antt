@@ -66,15 +66,15 @@ pub record Widest (sz : ℕ → ℕ) (n most i : ℕ) : Type 0 where
   pub few : i ≤ n
 
 module _ (sz : ℕ → ℕ) (n : ℕ) where
-  pub widest-start : {most : ℕ} → most ≡ 0 → Widest sz n most 0
-  widest-start e =
+  pub widest_start : {most : ℕ} → most ≡ 0 → Widest sz n most 0
+  widest_start e =
       let f : n - 0 ≡ n = omega arith in
       record { whole = rw f (omega arith); few = omega arith }
 
-  pub widest-next : {most i most' : ℕ} → Widest sz n most i → i < n → most' ≡ max most (sz i) → Widest sz n most' (i + 1)
+  pub widest_next : {most i most' : ℕ} → Widest sz n most i → i < n → most' ≡ max most (sz i) → Widest sz n most' (i + 1)
   unfolding widest
-  widest-next {i} w h e = record { whole = omega (arith, rw (first_of sz n i h) at w.whole); few = omega arith }
+  widest_next {i} w h e = record { whole = omega (arith, rw (first_of sz n i h) at w.whole); few = omega arith }
 
-  pub widest-end : {most i : ℕ} → Widest sz n most i → n ≤ i → most ≡ widest (tabulate sz 0 n)
+  pub widest_end : {most i : ℕ} → Widest sz n most i → n ≤ i → most ≡ widest (tabulate sz 0 n)
   unfolding widest
-  widest-end {i} w h = omega (arith, rw (none_of sz n i h) at w.whole)
+  widest_end {i} w h = omega (arith, rw (none_of sz n i h) at w.whole)

@@ -12,7 +12,7 @@ use Rattle.tile_layout.specs.declared.TileArgs.{TileArgs}
 use Rattle.tile_layout.specs.declared.TileInfo.{TileInfo}
 use Rattle.tile_layout.specs.Limits.{in_domain, no_tile_info}
 use Rattle.tile_layout.proofs.Domain.{domain}
-use Rattle.tile_layout.proofs.Demand3.{accepted-in, all-accepted}
+use Rattle.tile_layout.proofs.Demand3.{accepted_in, all_accepted}
 use Rattle.layout_bits.specs.Rows.{StandsAt, Used, used_bits, byte_count, bytes_of, packed}
 use Rattle.layout_bits.specs.Bits.{layout_bits}
 use Rattle.layout_bits.specs.Readable.{Readable}
@@ -35,7 +35,7 @@ pub record Back (s : List ℕ) (p : Place) (a : TileArgs) (t : TileInfo) : Type 
 
 module _ (a : TileArgs) (t : TileInfo) (b : SomeBits a t) where
   pub domained : in_domain a ≡ true
-  domained = accepted-in b.bytes b.place no_tile_info a b.clean.accepted
+  domained = accepted_in b.bytes b.place no_tile_info a b.clean.accepted
 
   used : Readable no_tile_info a t × Used b.bytes b.place (fresh b.bytes b.place a).next (layout_bits a t)
   used = rw b.gives at (layout_code.used b.bytes b.place no_tile_info a b.clean)
@@ -53,7 +53,7 @@ module _ (a : TileArgs) (t : TileInfo) (b : SomeBits a t) where
   -- at most 64 columns and rows, and 1,409 bits
   pub few : (t.cols ≤ 64) × (t.rows ≤ 64)
   few =
-      let x = all-accepted b.bytes b.place no_tile_info a b.clean.accepted in
+      let x = all_accepted b.bytes b.place no_tile_info a b.clean.accepted in
       rw (← b.gives) (x.most_cols, x.most_rows)
 
   pub short : length (layout_bits a t) ≤ 1409

@@ -43,11 +43,11 @@ pub list_same : {xs ys : List ℕ} → xs ≡ ys → same_list xs ys ≡ true
 list_same {xs} e = rw (← e) (list_self xs)
 
 module _ (xs ys : List ℕ) where
-  pub starts-differ : (k : ℕ) → (get_or xs k 0 ≡ get_or ys k 0 → ⊥) → same_list xs ys ≡ false
-  starts-differ k differ = not_so (same_list xs ys) (λ e. differ (ap (λ (l : List ℕ). get_or l k 0) (list_only xs ys e)))
+  pub starts_differ : (k : ℕ) → (get_or xs k 0 ≡ get_or ys k 0 → ⊥) → same_list xs ys ≡ false
+  starts_differ k differ = not_so (same_list xs ys) (λ e. differ (ap (λ (l : List ℕ). get_or l k 0) (list_only xs ys e)))
 
-  pub starts-same : length xs ≡ length ys → ((k : ℕ) → k < length xs → get_or xs k 0 ≡ get_or ys k 0) → same_list xs ys ≡ true
-  starts-same l f = list_same (ext_get_or 0 xs ys l f)
+  pub starts_same : length xs ≡ length ys → ((k : ℕ) → k < length xs → get_or xs k 0 ≡ get_or ys k 0) → same_list xs ys ≡ true
+  starts_same l f = list_same (ext_get_or 0 xs ys l f)
 
 layout_self : (t : TileInfo) → same_layout t t ≡ true
 unfolding same_numbers same_layout
@@ -68,17 +68,17 @@ layout_self t =
 
 -- two records are the same exactly when all their fields are
 module _ (t u : TileInfo) where
-  pub layout-only : same_layout t u ≡ true → t ≡ u
+  pub layout_only : same_layout t u ≡ true → t ≡ u
   unfolding same_numbers same_layout
-  layout-only h =
+  layout_only h =
       let rows-list = both _ _ h in
       let cols-list = both _ _ rows-list.0 in
       let numbers = both _ _ cols-list.0 in
       let rows = both _ _ numbers.1 in
       let log-rows = both _ _ rows.0 in
       let max_rows = both _ _ log-rows.0 in
-      let min-rows = both _ _ max_rows.0 in
-      let cols = both _ _ min-rows.0 in
+      let min_rows = both _ _ max_rows.0 in
+      let cols = both _ _ min_rows.0 in
       let log-cols = both _ _ cols.0 in
       let max_cols = both _ _ log-cols.0 in
       λ i.
@@ -88,7 +88,7 @@ module _ (t u : TileInfo) where
         max_log2_cols = eqb-true t.max_log2_cols u.max_log2_cols max_cols.1 i;
         log2_cols = eqb-true t.log2_cols u.log2_cols log-cols.1 i;
         cols = eqb-true t.cols u.cols cols.1 i;
-        min_log2_rows = eqb-true t.min_log2_rows u.min_log2_rows min-rows.1 i;
+        min_log2_rows = eqb-true t.min_log2_rows u.min_log2_rows min_rows.1 i;
         max_log2_rows = eqb-true t.max_log2_rows u.max_log2_rows max_rows.1 i;
         log2_rows = eqb-true t.log2_rows u.log2_rows log-rows.1 i;
         rows = eqb-true t.rows u.rows rows.1 i;
@@ -96,8 +96,8 @@ module _ (t u : TileInfo) where
         row_start_sb = list_only t.row_start_sb u.row_start_sb rows-list.1 i;
       }
 
-  pub layout-same : t ≡ u → same_layout t u ≡ true
-  layout-same e = rw (← e) (layout_self t)
+  pub layout_same : t ≡ u → same_layout t u ≡ true
+  layout_same e = rw (← e) (layout_self t)
 
 -- a reading that is accepted without error and gives t
 module _ (r : TileRead) (t : TileInfo) where
@@ -106,8 +106,8 @@ module _ (r : TileRead) (t : TileInfo) where
   reads_only h =
       let p = both (not (is_refusal r.answer) && not r.next.error) (same_layout r.info t) h in
       let q = both (not (is_refusal r.answer)) (not r.next.error) p.0 in
-      (record { accepted = not-true _ q.0; unset = not-true _ q.1 }, layout-only r.info t p.1)
+      (record { accepted = not-true _ q.0; unset = not-true _ q.1 }, layout_only r.info t p.1)
 
   pub reads_same : Clean r → r.info ≡ t → reads_as r t ≡ true
   unfolding reads_as
-  reads_same c e = both_hold (both_hold (ap not c.accepted) (ap not c.unset)) (layout-same r.info t e)
+  reads_same c e = both_hold (both_hold (ap not c.accepted) (ap not c.unset)) (layout_same r.info t e)

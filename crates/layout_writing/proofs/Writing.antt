@@ -46,8 +46,8 @@ module _ (a : TileArgs) (t : TileInfo) where
             ap (λ (x : ℕ). x / 2 ^ (7 - (0 + k) % 8) % 2) (get_or-append (packed bits) rest 0 ((0 + k) / 8) e) ∙ st.same k h;
       }
 
-  reads-from : SomeBits a t → (s : List ℕ) → StandsAt s 0 bits → ReadsAs s (length bits) a t
-  reads-from b s st =
+  reads_from : SomeBits a t → (s : List ℕ) → StandsAt s 0 bits → ReadsAs s (length bits) a t
+  reads_from b s st =
       let r = back a t b s start (from_start s bits st) in
       record { clean = r.accepted refl; gives = r.gives; uses = r.just.ends ∙ omega (arith, pos_at s 0 false (omega arith)) }
 
@@ -110,8 +110,8 @@ module _ (a : TileArgs) (t : TileInfo) where
         let no = not_so (reads_as (again a t) t) (λ h. never (some_bits a t _ start h) (bytes_lt size bits (small_layout a t))) in
         ap (λ (w : Written × List ℕ). number_of w.0.answer) (taken _ _ _ d ∙ left _ _ _ no)
 
-    not-8 : SomeBits a t → number_of (write_tile_info a t out).0.answer ≡ 8 → ⊥
-    not-8 b e =
+    not_8 : SomeBits a t → number_of (write_tile_info a t out).0.answer ≡ 8 → ⊥
+    not_8 b e =
         picked (λ (w : Written × List ℕ). number_of w.0.answer ≡ 8 → ⊥) (leb size (length out)) (written bits out) (refusal ShortBuffer, out)
         (λ _ q. omega arith) (λ _ q. omega arith) (rw (asked b) at e)
 
@@ -120,12 +120,12 @@ writing a t out =
     record {
       itself = λ ok.
           let w = accepted a t out ok in
-          rw w.1 (reads-from a t w.0 _ (in_front a t (drop (byte_count (layout_bits a t)) out)));
+          rw w.1 (reads_from a t w.0 _ (in_front a t (drop (byte_count (layout_bits a t)) out)));
       in_front = λ ok s same.
           let w = accepted a t out ok in
           let st = in_front a t (drop (byte_count (layout_bits a t)) out) in
           let g = rw w.1 at same in
-          rw w.1 (reads-from a t w.0 s (record {
+          rw w.1 (reads_from a t w.0 s (record {
             there = omega (arith, g.there);
             same = λ k h.
                 let z : 0 + k ≡ k = omega arith in
@@ -136,7 +136,7 @@ writing a t out =
           let q = row_is a t b in
           λ room. rw q (asked a t out b ∙ taken _ _ _ (le-leb (byte_count (layout_bits a t)) (length out) (rw q at room)));
       refused_with_8 = none a t out;
-      only_then = λ e b. not-8 a t out b e;
+      only_then = λ e b. not_8 a t out b e;
       behind = λ ok. rw (accepted a t out ok).1 (drop_at (packed (layout_bits a t)) _ _ (bytes_length _ (layout_bits a t)));
       unwritten = unwritten a t out;
       readable = λ d k.

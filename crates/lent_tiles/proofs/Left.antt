@@ -49,22 +49,22 @@ answer_back NoSuchLayout = refl
 
 -- a buffer that is too short gives 5, and the place settled
 module _ (s : List ℕ) (position error : ℕ) {x y : ℕ} (place : (x ∷ y ∷ []) ≡ lent_place (settled s (place_of position error)) error) where
-  pub tiles-short : (read : Place → TileInfo → TileRead) (b : Buffers) → has_room b ≡ false → ((5 ∷ x ∷ y ∷ []), b) ≡ lent_tiles read s position error b
+  pub tiles_short : (read : Place → TileInfo → TileRead) (b : Buffers) → has_room b ≡ false → ((5 ∷ x ∷ y ∷ []), b) ≡ lent_tiles read s position error b
   unfolding lent_tiles
-  tiles-short read b lacks = pair (row ShortBuffer (settled s (place_of position error)) error refl place) refl ∙ sym (left _ _ _ lacks)
+  tiles_short read b lacks = pair (row ShortBuffer (settled s (place_of position error)) error refl place) refl ∙ sym (left _ _ _ lacks)
 
-  pub frames-short : (read : Place → FrameRead) (code : ℕ) (b seq : Buffers) (known : Bool) → has_room b && has_room seq ≡ false
+  pub frames_short : (read : Place → FrameRead) (code : ℕ) (b seq : Buffers) (known : Bool) → has_room b && has_room seq ≡ false
       → ((5 ∷ x ∷ y ∷ []), code, b) ≡ lent_frames read s position error code b seq known
   unfolding lent_frames
-  frames-short read code b seq known lacks = triple (row ShortBuffer (settled s (place_of position error)) error refl place) refl refl ∙ sym (left _ _ _ lacks)
+  frames_short read code b seq known lacks = triple (row ShortBuffer (settled s (place_of position error)) error refl place) refl refl ∙ sym (left _ _ _ lacks)
 
 -- what a layout's answer leaves, handed back
 module _ (r : TileRead) (error : ℕ) (b : Buffers) {n x y : ℕ} {b' : Buffers} (e : ((n ∷ x ∷ y ∷ []), b') ≡ handed_tiles r error b) where
-  pub tiles-number : n ≡ number_of r.answer
-  tiles-number = ap (λ (z : List ℕ × Buffers). get_or z.0 0 0) e
+  pub tiles_number : n ≡ number_of r.answer
+  tiles_number = ap (λ (z : List ℕ × Buffers). get_or z.0 0 0) e
 
-  pub tiles-kept : (n ≡ 0 → ⊥) → b' ≡ b
-  tiles-kept h = ap (λ (z : List ℕ × Buffers). z.1) e ∙ taken _ _ _ (refused_unless_0 r.answer (λ k. h (tiles-number ∙ k)))
+  pub tiles_kept : (n ≡ 0 → ⊥) → b' ≡ b
+  tiles_kept h = ap (λ (z : List ℕ × Buffers). z.1) e ∙ taken _ _ _ (refused_unless_0 r.answer (λ k. h (tiles_number ∙ k)))
 
 -- refused, the buffers are what they were
 pub lent_kept : (read : Place → TileInfo → TileRead) (s : List ℕ) (position error : ℕ) (b : Buffers) {n x y : ℕ} {b' : Buffers}
@@ -73,7 +73,7 @@ unfolding lent_tiles then
 lent_kept read s position error b {n} {x} {y} {b'} = by (has_room b)
   where
     by : (t : Bool) → ((n ∷ x ∷ y ∷ []), b') ≡ pick t (handed_tiles (read (place_of position error) (layout_in b)) error b) (too_short s position error, b) → (n ≡ 0 → ⊥) → b' ≡ b
-    by true e h = tiles-kept (read (place_of position error) (layout_in b)) error b e h
+    by true e h = tiles_kept (read (place_of position error) (layout_in b)) error b e h
     by false e h = ap (λ (z : List ℕ × Buffers). z.1) e
 
 -- a layout that was read into the buffers is handed back in them
@@ -84,29 +84,29 @@ module _ (s : List ℕ) (position error : ℕ) (a : TileArgs) (b : Buffers) wher
   abbrev z : TileRead
   z = parse_tile_info s (place_of position error) (layout_in b) a
 
-  by-room : (t : Bool) → handed (pick t (read_into z b) (record { answer = ShortBuffer; next = settled s (place_of position error) }, b))
+  by_room : (t : Bool) → handed (pick t (read_into z b) (record { answer = ShortBuffer; next = settled s (place_of position error) }, b))
       ≡ pick t (handed_tiles z error b) (too_short s position error, b)
-  by-room true = refl
-  by-room false = refl
+  by_room true = refl
+  by_room false = refl
 
-  pub into-handed : {r : TileOutcome} {after : Buffers} → (r, after) ≡ parse_tile_info_into s (place_of position error) b a
+  pub into_handed : {r : TileOutcome} {after : Buffers} → (r, after) ≡ parse_tile_info_into s (place_of position error) b a
       → {n x y : ℕ} → n ≡ number_of r.answer → (x ∷ y ∷ []) ≡ lent_place r.next error → ((n ∷ x ∷ y ∷ []), after) ≡ lent_tile_info s position error b a
   unfolding lent_tiles then parse_tile_info_into
-  into-handed {r} e number place = pair (row r.answer r.next error number place) refl ∙ ap handed e ∙ by-room (has_room b)
+  into_handed {r} e number place = pair (row r.answer r.next error number place) refl ∙ ap handed e ∙ by_room (has_room b)
 
 -- and a frame's
 module _ (r : FrameRead) (error code : ℕ) (b : Buffers) {n x y code' : ℕ} {b' : Buffers} (e : ((n ∷ x ∷ y ∷ []), code', b') ≡ handed_frame r error code b) where
-  pub frame-number : n ≡ number_of r.answer
-  frame-number = ap (λ (z : List ℕ × ℕ × Buffers). get_or z.0 0 0) e
+  pub frame_number : n ≡ number_of r.answer
+  frame_number = ap (λ (z : List ℕ × ℕ × Buffers). get_or z.0 0 0) e
 
   refused : (n ≡ 0 → ⊥) → is_refusal r.answer ≡ true
-  refused h = refused_unless_0 r.answer (λ k. h (frame-number ∙ k))
+  refused h = refused_unless_0 r.answer (λ k. h (frame_number ∙ k))
 
-  pub code-kept : (n ≡ 0 → ⊥) → code' ≡ code
-  code-kept h = ap (λ (z : List ℕ × ℕ × Buffers). z.1) e ∙ taken _ _ _ (refused h)
+  pub code_kept : (n ≡ 0 → ⊥) → code' ≡ code
+  code_kept h = ap (λ (z : List ℕ × ℕ × Buffers). z.1) e ∙ taken _ _ _ (refused h)
 
-  pub frame-kept : (n ≡ 0 → ⊥) → b' ≡ b
-  frame-kept h = ap (λ (z : List ℕ × ℕ × Buffers). z.2) e ∙ taken _ _ _ (refused h)
+  pub frame_kept : (n ≡ 0 → ⊥) → b' ≡ b
+  frame_kept h = ap (λ (z : List ℕ × ℕ × Buffers). z.2) e ∙ taken _ _ _ (refused h)
 
 -- a frame's layout that was read into the buffers is handed back in them
 module _ (s : List ℕ) (p : Place) (h : FrameHeader) (q : SeqLayout) (b seq : Buffers) {r : FrameOutcome} {after : Buffers}
@@ -129,26 +129,26 @@ module _ (s : List ℕ) (p : Place) (h : FrameHeader) (q : SeqLayout) (b seq : B
 
 -- what is left of a reading has its answer, and its layout where that is accepted
 module _ (z : TileRead) (n : ℕ) (b : Buffers) (number : n ≡ number_of z.answer) (info : is_refusal z.answer ≡ false → layout_in b ≡ z.info) where
-  pub left-answer : answer_of n ≡ z.answer
-  left-answer = ap answer_of number ∙ answer_back z.answer
+  pub left_answer : answer_of n ≡ z.answer
+  left_answer = ap answer_of number ∙ answer_back z.answer
 
-  pub left-accepted : is_refusal (answer_of n) ≡ false → is_refusal z.answer ≡ false
-  left-accepted r = sym (ap is_refusal left-answer) ∙ r
+  pub left_accepted : is_refusal (answer_of n) ≡ false → is_refusal z.answer ≡ false
+  left_accepted r = sym (ap is_refusal left_answer) ∙ r
 
   -- an accepted layout is left with zeros behind its closing entries
-  pub cleared-left : {old : TileInfo} → ReadOver old z → n ≡ 0 → Cleared (layout_in b)
-  cleared-left o e =
+  pub cleared_left : {old : TileInfo} → ReadOver old z → n ≡ 0 → Cleared (layout_in b)
+  cleared_left o e =
       let h = accepted_by_0 z.answer (sym number ∙ e) in
       subst Cleared (sym (info h)) (o.cleared h)
 
   -- demand 3 of a layout is demand 3 of what is left of it
-  pub demand3-left : {s : List ℕ} {p p' : Place} {a : TileArgs} → Demand3 s p a z → Demand3 s p a (tiles_left n b p')
-  demand3-left {s} {p} {p'} {a} d =
+  pub demand3_left : {s : List ℕ} {p p' : Place} {a : TileArgs} → Demand3 s p a z → Demand3 s p a (tiles_left n b p')
+  demand3_left {s} {p} {p'} {a} d =
       record {
-        uniform_never_refused = λ u. ap is_refusal left-answer ∙ d.uniform_never_refused u;
-        refused_with_2 = λ u l. ap number_of left-answer ∙ d.refused_with_2 u l;
-        refused_only_then = λ u r. d.refused_only_then u (sym (ap is_refusal left-answer) ∙ r);
+        uniform_never_refused = λ u. ap is_refusal left_answer ∙ d.uniform_never_refused u;
+        refused_with_2 = λ u l. ap number_of left_answer ∙ d.refused_with_2 u l;
+        refused_only_then = λ u r. d.refused_only_then u (sym (ap is_refusal left_answer) ∙ r);
         accepted = λ r.
-            let h = left-accepted r in
+            let h = left_accepted r in
             subst (AcceptedLayout s p a) (sym (info h)) (d.accepted h);
       }

@@ -134,8 +134,8 @@ module _ (N : Records) where
           by ! (subst (λ (w : Values (answer_parts X (α κs))). ent 𝓤 (sem 𝓛 (all_own (answer_parts X (α κs)) (Q-laws (α κs)) vd)) (sem 𝓛 ((Struct (shape (Q-type (α κs)))).own_val (intos (answer_parts X (α κs)) w) (u ∷ []))))
           (N.answer_made (α κs) vd.0 vd.1.0 d) (own_shut 𝓛 (Q-type (α κs)) (Q-laws (α κs)) vd)))
 
-    pub after-walk : (𝓣 : Tables 𝓤 H) → Claims Ps Q (equals Ps Q after) 𝓛 (WpFn 𝓤 H 𝓣.C 𝓣.Λ after-function)
-    after-walk 𝓣 = walks Ps Q (equals Ps Q after) 𝓛 𝓣 after-function (λ κs qs xs are.
+    pub after_walk : (𝓣 : Tables 𝓤 H) → Claims Ps Q (equals Ps Q after) 𝓛 (WpFn 𝓤 H 𝓣.C 𝓣.Λ after-function)
+    after_walk 𝓣 = walks Ps Q (equals Ps Q after) 𝓛 𝓣 after-function (λ κs qs xs are.
         qed 𝓛 (raw (Entry 𝓛 Ps κs qs xs (vals Ps κs xs)) ∷ []) ∵ enter ! 𝓣.C 𝓣.Λ after-function (bytes.val κs xs.0 ∷ R.val κs xs.1.0 ∷ []) _ $
         alloc1 ! (λ l₀. alloc1 ! (λ l₁. alloc1 ! (λ l₂. alloc1 ! (λ l₃. alloc0 ! $ params1 ! $ pass1 ! (init ! 4 refl (bytes.typed 𝓛 κs xs.0 _ are.0)) $ pass1 ! (init ! 2 refl (R.typed 𝓛 κs xs.1.0 _ are.1.0)) $ pass0 ! $
         move ! (8 ∷ []) $ made ! Ps Q κs qs xs (vals Ps κs xs) (after κs xs) (u κs xs) (makes κs xs) (λ is.
@@ -182,8 +182,8 @@ module _ (N : Records) where
       abbrev ub : Val
       ub = vstruct (spelled (read_parts X) R-laws vb)
 
-      makes-back : ent 𝓤 (sem 𝓛 (owns (rows κs Bs) xs (vals Bs κs xs))) (sem 𝓛 ((row R κs).own_val (back κs xs) (ub ∷ [])))
-      makes-back =
+      makes_back : ent 𝓤 (sem 𝓛 (owns (rows κs Bs) xs (vals Bs κs xs))) (sem 𝓛 ((row R κs).own_val (back κs xs) (ub ∷ [])))
+      makes_back =
           qed 𝓛 (‵ (owns (rows κs Bs) xs (vals Bs κs xs)) ∷ []) ∵ fsplit ! $
           use1 𝓛 (given (Q.val κs xs.0 ∷ [] ≡ Q.val κs xs.0 ∷ []) (‵ (all_own (answer_parts X (α κs)) (Q-laws (α κs)) fs))) (own_open 𝓛 (Q-type (α κs)) (Q-laws (α κs)) fs (Q.val κs xs.0)) $
           learn ! (λ _. fsplit ! $ move ! (1 ∷ []) $ fsplit ! $ move ! (1 ∷ []) $ fsplit ! $
@@ -195,12 +195,12 @@ module _ (N : Records) where
           by ! (subst (λ (w : Values (read_parts X)). ent 𝓤 (sem 𝓛 (all_own (read_parts X) R-laws vb)) (sem 𝓛 ((Struct (shape R-type)).own_val (intos (read_parts X) w) (ub ∷ []))))
           (N.read_made vb.0 vb.1.0 vb.1.1.0) (own_shut 𝓛 R-type R-laws vb))))
 
-    pub back-walk : (𝓣 : Tables 𝓤 H) → Claims Bs R (equals Bs R back) 𝓛 (WpFn 𝓤 H 𝓣.C 𝓣.Λ back-function)
-    back-walk 𝓣 = walks Bs R (equals Bs R back) 𝓛 𝓣 back-function (λ κs qs xs are.
+    pub back_walk : (𝓣 : Tables 𝓤 H) → Claims Bs R (equals Bs R back) 𝓛 (WpFn 𝓤 H 𝓣.C 𝓣.Λ back-function)
+    back_walk 𝓣 = walks Bs R (equals Bs R back) 𝓛 𝓣 back-function (λ κs qs xs are.
         let each = LL.owed (Q-type (α κs)) (Q-laws (α κs)) xs.0 _ are.0 in
         qed 𝓛 (raw (Entry 𝓛 Bs κs qs xs (vals Bs κs xs)) ∷ []) ∵ enter ! 𝓣.C 𝓣.Λ back-function (Q.val κs xs.0 ∷ []) _ $
         alloc1 ! (λ l₀. alloc1 ! (λ l₁. alloc1 ! (λ l₂. alloc1 ! (λ l₃. alloc1 ! (λ l₄. alloc0 ! $ params1 ! $ pass1 ! (init ! 6 refl (Q.typed 𝓛 κs xs.0 _ are.0)) $ pass0 ! $
-        move ! (10 ∷ []) $ made ! Bs R κs qs xs (vals Bs κs xs) (back κs xs) (ub κs xs) (makes-back κs xs) (λ is.
+        move ! (10 ∷ []) $ made ! Bs R κs qs xs (vals Bs κs xs) (back κs xs) (ub κs xs) (makes_back κs xs) (λ is.
         -- [what the answer owns; the entry; _4; …; _3; …; _2; …; _1; …; room for _0; …]
         assigns ! (of_opd ! (load ! (from ! (fld ! refl (stop !))) (look_in ! 8 (sub ! 0 refl (whole !))))) (from ! (stop !)) (init ! 6 refl (((An'.the_field_laws).lawful 𝓛).typed ((An.the_field).into (fs κs xs).0) _ each.0).0) $
         assigns ! (of_opd ! (load ! (from ! (fld ! refl (stop !))) (look_in ! 8 (sub ! 1 refl (whole !))))) (from ! (stop !)) (init ! 4 refl ((N.laws.lawful 𝓛).typed (X.into (fs κs xs).1.0) _ each.1.0).0) $

@@ -29,7 +29,7 @@ use denote.Triple.Clauses.{Ended, AtExit, Clauses, lasts, ensured, closing}
 use denote.Triple.Table.{entered, cited}
 use denote.Triple.Weaken.{weaken}
 use denote.Triple.Walked.{says, walk_of, has_of, ends_at, walked, walk_Meets}
-use Rattle.reader.proofs.Param.{Param, row, slots, kept, stays, rows, spells, tellss, lasts-none, fits-none, had-is, copies, all_go}
+use Rattle.reader.proofs.Param.{Param, row, slots, kept, stays, rows, spells, tellss, lasts-none, fits-none, had_is, copies, all_go}
 
 -- a function of the parameters Ps that answers Q
 abbrev pub ended : List Param → Param → Ended
@@ -90,7 +90,7 @@ module _ (Ps : List Param) (Q : Param) (φ : Fact Ps Q) {M : Type 1} {𝓤 : Ura
     Exit = (walk_of 𝓛 (ended Ps Q) (stays Ps) clauses).post to
 
     had : ent 𝓤 (sem 𝓛 (owns (rows κs Ps) xs vss)) (sem 𝓛 (has_of κs (slots Ps) (kept Ps) (stays Ps) xs (lasts-none κs Ps xs) vss))
-    had = subst (λ (F : Fml). ent 𝓤 (sem 𝓛 (owns (rows κs Ps) xs vss)) (sem 𝓛 F)) (had-is κs Ps xs vss) (id⊢ 𝓤 _)
+    had = subst (λ (F : Fml). ent 𝓤 (sem 𝓛 (owns (rows κs Ps) xs vss)) (sem 𝓛 F)) (had_is κs Ps xs vss) (id⊢ 𝓤 _)
 
     pub exits : (r : (Q.base κs).Denot) (u : Val) → φ κs xs r → ent 𝓤 (sep 𝓤 (sem 𝓛 ((row Q κs).own_val r (u ∷ []))) (Entry 𝓛 Ps κs qs xs vss)) (Exit u)
     exits r u e =
@@ -180,6 +180,6 @@ module _ {M : Type 1} {𝓤 : Ura M} (𝓛 : Logic 𝓤) (𝓜 : Model 𝓤 𝓛
   proved E states walk = subst Meeting (λ i κs xs r e. states κs xs r e i) (shown walk)
 
   -- the same with a second fact, which the first gives
-  pub proved-two : (ψ : Fact Ps Q) → ((κs : Lfts 1) (xs : Denots (rows κs Ps)) (r : (Q.base κs).Denot) → φ κs xs r → ψ κs xs r)
+  pub proved_two : (ψ : Fact Ps Q) → ((κs : Lfts 1) (xs : Denots (rows κs Ps)) (r : (Q.base κs).Denot) → φ κs xs r → ψ κs xs r)
       → (E : Ensures) → ((κs : Lfts 1) (xs : Denots (rows κs Ps)) (r : (Q.base κs).Denot) (e : AtExit (ended Ps Q) κs) → sep 𝓤 (fact 𝓤 (φ κs xs r)) (fact 𝓤 (ψ κs xs r)) ≡ E κs xs r e) → Walk → Meeting E
-  proved-two ψ law E states walk = subst Meeting (λ i κs xs r e. states κs xs r e i) (both 𝓛 𝓜 𝓡 Ps Q φ ψ (env #f) law (shown walk))
+  proved_two ψ law E states walk = subst Meeting (λ i κs xs r e. states κs xs r e i) (both 𝓛 𝓜 𝓡 Ps Q φ ψ (env #f) law (shown walk))

@@ -76,13 +76,13 @@ module _ (X Q R : Param) (τ : Ty) (f : Answer (reader ∷ X ∷ []) Q) (g : Ans
       abbrev Ask-back : (Q.base κs).Denot → Val → SProp 𝓤
       Ask-back r u = (Claim (Q ∷ []) R back 𝓛).pre (to (Q ∷ []) R back 𝓛 κs qs (r, tt) (u ∷ [], tt))
 
-      goes-new : ent 𝓤 (Entry 𝓛 Ps κs qs xs (vals Ps κs xs)) (sep 𝓤 Ask-new (sep 𝓤 (sem 𝓛 Other) (sem 𝓛 Own)))
-      goes-new =
+      goes_new : ent 𝓤 (Entry 𝓛 Ps κs qs xs (vals Ps κs xs)) (sep 𝓤 Ask-new (sep 𝓤 (sem 𝓛 Other) (sem 𝓛 Own)))
+      goes_new =
           qed 𝓛 (raw (Token 𝓛 κs qs) ∷ ‵ Own ∷ []) ∵ move ! (1 ∷ []) $ use1 𝓛 (‵ Own ⊛ ‵ Own) (twices 𝓛 (rows κs Ps) (copies 𝓛 κs Ps) xs (vals Ps κs xs)) $ split ! $ fsplit ! $
           nothing ! $ move ! (1 ∷ 0 ∷ []) $ fjoin ! $ move ! (3 ∷ 0 ∷ []) $ use2 𝓛 (raw Ask-new) (asked (bytes ∷ []) reader made 𝓛 κs qs (xs.0, tt) (vals (bytes ∷ []) κs (xs.0, tt))) $ frame ! $ frame ! $ done !
 
-      goes-parse : (d : GetBits) (u : Val) → ent 𝓤 (⋆ 𝓛 (‵ ((row reader κs).own_val d (u ∷ [])) ∷ raw (Token 𝓛 κs qs) ∷ ‵ Other ∷ [])) (Ask-parse d u)
-      goes-parse d u =
+      goes_parse : (d : GetBits) (u : Val) → ent 𝓤 (⋆ 𝓛 (‵ ((row reader κs).own_val d (u ∷ [])) ∷ raw (Token 𝓛 κs qs) ∷ ‵ Other ∷ [])) (Ask-parse d u)
+      goes_parse d u =
           qed 𝓛 (‵ ((row reader κs).own_val d (u ∷ [])) ∷ raw (Token 𝓛 κs qs) ∷ ‵ Other ∷ []) ∵ move ! (0 ∷ 2 ∷ []) $ fjoin ! $ move ! (1 ∷ 0 ∷ []) $
           by ! (asked (reader ∷ X ∷ []) Q parsed 𝓛 κs qs (d, xs.1) (u ∷ [], vals (X ∷ []) κs xs.1))
 
@@ -98,10 +98,10 @@ module _ (X Q R : Param) (τ : Ty) (f : Answer (reader ∷ X ∷ []) Q) (g : Ans
     walk q-erased 𝓣 #new #f #g known-new known-parse known-back = walks Ps R φ 𝓛 𝓣 (function #new #f #g) (λ κs qs xs are.
         qed 𝓛 (raw (Entry 𝓛 Ps κs qs xs (vals Ps κs xs)) ∷ []) ∵ enter ! 𝓣.C 𝓣.Λ (function #new #f #g) (bytes.val κs xs.0 ∷ X.val κs xs.1.0 ∷ []) _ $
         alloc1 ! (λ l₀. alloc1 ! (λ l₁. alloc1 ! (λ l₂. alloc1 ! (λ l₃. alloc1 ! (λ l₄. alloc0 ! $ params1 ! $ pass1 ! (init ! 6 refl (bytes.typed 𝓛 κs xs.0 _ are.0)) $ pass1 ! (init ! 4 refl (X.typed 𝓛 κs xs.1.0 _ are.1.0)) $ pass0 ! $
-        move ! (10 ∷ []) $ use1 𝓛 (raw (Ask-new κs qs xs) ⊛ ‵ (Other κs qs xs) ⊛ ‵ (Own κs qs xs)) (goes-new κs qs xs) $ split ! $
+        move ! (10 ∷ []) $ use1 𝓛 (raw (Ask-new κs qs xs) ⊛ ‵ (Other κs qs xs) ⊛ ‵ (Own κs qs xs)) (goes_new κs qs xs) $ split ! $
         -- [what new asks; X and all; _4; …; _3; …; _2; …; _1; …; room for _0; …]
         calls ! (fm_of 𝓤 H 𝓛.laws 𝓣) (bytes ∷ []) reader made known-new κs qs (xs.0, tt) _ (and_then ! (load ! (from ! (stop !)) (look ! 8 refl)) (no_more !)) (λ u d e is.
-        land ! (from ! (stop !)) (init ! 3 refl (reader_erased 𝓛 κs d u is)) $ move ! (2 ∷ []) $ split ! $ move ! (2 ∷ 3 ∷ 0 ∷ []) $ use3 𝓛 (raw (Ask-parse κs qs xs d u)) (goes-parse κs qs xs d u) $
+        land ! (from ! (stop !)) (init ! 3 refl (reader_erased 𝓛 κs d u is)) $ move ! (2 ∷ []) $ split ! $ move ! (2 ∷ 3 ∷ 0 ∷ []) $ use3 𝓛 (raw (Ask-parse κs qs xs d u)) (goes_parse κs qs xs d u) $
         calls ! (fm_of 𝓤 H 𝓛.laws 𝓣) (reader ∷ X ∷ []) Q parsed known-parse κs qs (d, xs.1) _ (and_then ! (load ! (from ! (stop !)) (look ! 2 refl)) (and_then ! (load ! (from ! (stop !)) (look ! 6 refl)) (no_more !))) (λ u' r e' is'.
         land ! (from ! (stop !)) (init ! 5 refl (q-erased κs r u' is')) $ use2 𝓛 (raw (Ask-back κs qs xs r u')) (goes_back κs qs xs r u') $
         calls ! (fm_of 𝓤 H 𝓛.laws 𝓣) (Q ∷ []) R back known-back κs qs (r, tt) _ (and_then ! (load ! (from ! (stop !)) (look ! 4 refl)) (no_more !)) (λ u'' t e'' is''.

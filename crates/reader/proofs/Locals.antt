@@ -93,8 +93,8 @@ module _ {M : Type 1} {𝓤 : Ura M} {𝓛 : Logic 𝓤} {K : Type 0} where
   -- a local by where it stands
   open 𝓛 use {H}
 
-  pub at-spot : K → {Γ : List (Item 𝓤)} {E : Env 𝓤 H} {i : ℕ} {sp : Spot 𝓤 H} → spot_of 𝓤 H E i ≡ sp → Finds K 𝓛 Γ E (place i []) sp
-  at-spot t {Γ} {E} {i} e = subst (λ (sp : Spot 𝓤 H). Finds K 𝓛 Γ E (place i []) sp) e (from t (stop t))
+  pub at_spot : K → {Γ : List (Item 𝓤)} {E : Env 𝓤 H} {i : ℕ} {sp : Spot 𝓤 H} → spot_of 𝓤 H E i ≡ sp → Finds K 𝓛 Γ E (place i []) sp
+  at_spot t {Γ} {E} {i} e = subst (λ (sp : Spot 𝓤 H). Finds K 𝓛 Γ E (place i []) sp) e (from t (stop t))
 
   pub allocated : K → {Γ : List (Item 𝓤)} (Ps : List Param) {ls : List Local} {Kt : Env 𝓤 H → Goal 𝓤 H}
       → ((bs : Blocks Ps) → Seq K 𝓛 (‵ (Rooms Ps bs) ∷ Γ) (allocs ls (λ E. Kt (env 𝓤 H Ps bs E)))) → Seq K 𝓛 Γ (allocs (locals Ps ls) Kt)
@@ -116,22 +116,22 @@ module _ {M : Type 1} {𝓤 : Ura M} {𝓛 : Logic 𝓤} {K : Type 0} where
   rewritten : {Γ Γ' : List (Item 𝓤)} {E : Env 𝓤 H} {os : List Opd} {vs : List Val} → ent 𝓤 (⋆ 𝓛 Γ) (⋆ 𝓛 Γ') → ent 𝓤 (⋆ 𝓛 Γ') (⋆ 𝓛 Γ) → Opds K 𝓛 Γ' E os vs → Opds K 𝓛 Γ E os vs
   rewritten {Γ} {Γ'} out back o = record { go = λ Kt h. via 𝓤 (⋆ 𝓛 Γ') out (o.go Kt (via 𝓤 (⋆ 𝓛 Γ) back h)) }
 
-  read-from : K → {Γ : List (Item 𝓤)} (κs : Lfts 1) (Ps : List Param) (bs : Blocks Ps) (xs : Denots (rows κs Ps)) (E : Env 𝓤 H) (i : ℕ) → Stand 𝓤 H Ps bs E i
+  read_from : K → {Γ : List (Item 𝓤)} (κs : Lfts 1) (Ps : List Param) (bs : Blocks Ps) (xs : Denots (rows κs Ps)) (E : Env 𝓤 H) (i : ℕ) → Stand 𝓤 H Ps bs E i
       → Opds K 𝓛 (‵ (Stored κs Ps bs xs) ∷ Γ) E (passed Ps i) (flat (rows κs Ps) (vals Ps κs xs))
-  read-from t κs [] bs xs E i st = no_more t
-  read-from t {Γ} κs (P ∷ Ps) bs xs E i st =
+  read_from t κs [] bs xs E i st = no_more t
+  read_from t {Γ} κs (P ∷ Ps) bs xs E i st =
       let F : Item 𝓤 = ‵ (fat full_share P.ty bs.0 zero (P.val κs xs.0)) in
       let D : Item 𝓤 = ‵ (fdies P.ty bs.0) in
       let R : Item 𝓤 = ‵ (Stored κs Ps bs.1 xs.1) in
       rewritten {Γ = ‵ (Stored κs (P ∷ Ps) bs xs) ∷ Γ} {Γ' = F ∷ D ∷ R ∷ Γ}
       (qed 𝓛 (‵ (Stored κs (P ∷ Ps) bs xs) ∷ Γ) ∵ fsplit3 ! $ done !) (qed 𝓛 (F ∷ D ∷ R ∷ Γ) ∵ fjoin3 ! $ done !)
-      (and_then t (load t (at-spot t st.0) (look t 0 refl))
+      (and_then t (load t (at_spot t st.0) (look t 0 refl))
       (rewritten {Γ = F ∷ D ∷ R ∷ Γ} {Γ' = R ∷ F ∷ D ∷ Γ} (qed 𝓛 (F ∷ D ∷ R ∷ Γ) ∵ move ! (2 ∷ []) $ done !) (qed 𝓛 (R ∷ F ∷ D ∷ Γ) ∵ move ! (1 ∷ 2 ∷ 0 ∷ []) $ done !)
-      (read-from t κs Ps bs.1 xs.1 E (i + 1) st.1)))
+      (read_from t κs Ps bs.1 xs.1 E (i + 1) st.1)))
 
   -- the arguments, as the operands of a call whose claim and another entry stand before them in the context
   pub arguments : K → {Γ : List (Item 𝓤)} {I J : Item 𝓤} (κs : Lfts 1) (Ps : List Param) (bs : Blocks Ps) (xs : Denots (rows κs Ps)) (E : Env 𝓤 H) (i : ℕ) → Stand 𝓤 H Ps bs E i
       → Opds K 𝓛 (I ∷ J ∷ ‵ (Stored κs Ps bs xs) ∷ Γ) E (passed Ps i) (flat (rows κs Ps) (vals Ps κs xs))
   arguments t {Γ} {I} {J} κs Ps bs xs E i st =
       let R : Item 𝓤 = ‵ (Stored κs Ps bs xs) in
-      rewritten {Γ = I ∷ J ∷ R ∷ Γ} {Γ' = R ∷ I ∷ J ∷ Γ} (qed 𝓛 (I ∷ J ∷ R ∷ Γ) ∵ move ! (2 ∷ []) $ done !) (qed 𝓛 (R ∷ I ∷ J ∷ Γ) ∵ move ! (1 ∷ 2 ∷ 0 ∷ []) $ done !) (read-from t κs Ps bs xs E i st)
+      rewritten {Γ = I ∷ J ∷ R ∷ Γ} {Γ' = R ∷ I ∷ J ∷ Γ} (qed 𝓛 (I ∷ J ∷ R ∷ Γ) ∵ move ! (2 ∷ []) $ done !) (qed 𝓛 (R ∷ I ∷ J ∷ Γ) ∵ move ! (1 ∷ 2 ∷ 0 ∷ []) $ done !) (read_from t κs Ps bs xs E i st)

@@ -29,7 +29,7 @@ use Rattle.reader.specs.contracts.GetBits as T
 use Rattle.reader.proofs.GetBits.TheLaws as T'
 use Rattle.reader.proofs.Param.{α, Param, row, bytes, rows, copies}
 use Rattle.reader.proofs.Claim.{Fact, Answer, equals, vals, Token, Entry, Claim, Claims, to, asked, Exit, exits, walks, calls}
-use Rattle.reader.proofs.Locals.{locals, count, passed, behind, stands, at-spot, allocated, stored, freed, arguments}
+use Rattle.reader.proofs.Locals.{locals, count, passed, behind, stands, at_spot, allocated, stored, freed, arguments}
 use Rattle.reader.proofs.Types.{place as place-param, reader}
 
 -- ---- the MIR: locals 0 the answer, 1 the reader, 2 and on the further parameters, and behind those the bytes, f's answer, the bytes again and the place
@@ -139,13 +139,13 @@ module _ {M : Type 1} {𝓤 : Ura M} (𝓛 : Logic 𝓤) (𝓣 : Tables 𝓤 �
       let at_5 = spot (count Ps + 5) 3 (omega arith) in
       alloc0 ! $ params1 ! $ pass1 ! (init ! 9 refl wt) $ move ! (8 ∷ []) $ stored ! κs Ps bs xs.1 are.1 $ pass0 ! $
       -- [the further parameters; the place; …; the bytes again; …; f's answer; …; the bytes; …; the reader; …; the answer; …; what there is on entry]
-      assigns ! (of_opd ! (load ! (from ! (fld ! refl (stop !))) (look_in ! 9 (sub ! 0 refl (whole !))))) (at-spot ! at-2) (init ! 7 refl (tt, wt.1.0)) $
-      assigns ! (of_opd ! (load ! (from ! (fld ! refl (stop !))) (look_in ! 9 (sub ! 0 refl (whole !))))) (at-spot ! at-4) (init ! 3 refl (tt, wt.1.0)) $
-      assigns ! (of_opd ! (load ! (from ! (fld ! refl (stop !))) (look_in ! 9 (sub ! 1 refl (whole !))))) (at-spot ! at_5) (init ! 1 refl (tt, wt.1.1.0)) $
+      assigns ! (of_opd ! (load ! (from ! (fld ! refl (stop !))) (look_in ! 9 (sub ! 0 refl (whole !))))) (at_spot ! at-2) (init ! 7 refl (tt, wt.1.0)) $
+      assigns ! (of_opd ! (load ! (from ! (fld ! refl (stop !))) (look_in ! 9 (sub ! 0 refl (whole !))))) (at_spot ! at-4) (init ! 3 refl (tt, wt.1.0)) $
+      assigns ! (of_opd ! (load ! (from ! (fld ! refl (stop !))) (look_in ! 9 (sub ! 1 refl (whole !))))) (at_spot ! at_5) (init ! 1 refl (tt, wt.1.1.0)) $
       move ! (13 ∷ []) $ use1 𝓛 (raw (Asks Ps R F 𝓛 κs qs xs) ⊛ ‵ (Bytes Ps R F 𝓛 κs qs xs) ⊛ ‵ (Own Ps R F 𝓛 κs qs xs)) (apart Ps R F 𝓛 κs qs xs) $ split ! $
-      calls ! (fm_of 𝓤 H 𝓛.laws 𝓣) (bytes ∷ place-param ∷ Ps) R F known.0 κs qs (s, (xs.0.at, xs.1)) _ (and_then ! (load ! (at-spot ! at-4) (look ! 5 refl)) (and_then ! (load ! (at-spot ! at_5) (look ! 3 refl)) (arguments ! κs Ps bs xs.1 _ 2 (stands 𝓤 H Ps bs rest (Q.ty, l₀) (T'.mir (named 0), l₁))))) (λ u r e is.
-      land ! (at-spot ! at-3) (init ! 8 refl (R.typed 𝓛 κs r u is)) $ move ! (2 ∷ []) $ split ! $ move ! (2 ∷ 3 ∷ 0 ∷ []) $ use3 𝓛 (raw (Ask-g Ps R Q f g 𝓛 κs qs xs r u)) (goes Ps R Q f g 𝓛 κs qs xs r u) $
-      calls ! (fm_of 𝓤 H 𝓛.laws 𝓣) (bytes ∷ R ∷ []) Q (ψ Ps R Q f g) known.1 κs qs (s, (r, tt)) _ (and_then ! (load ! (at-spot ! at-2) (look ! 9 refl)) (and_then ! (load ! (at-spot ! at-3) (look ! 7 refl)) (no_more !))) (λ u' t e' is'.
+      calls ! (fm_of 𝓤 H 𝓛.laws 𝓣) (bytes ∷ place-param ∷ Ps) R F known.0 κs qs (s, (xs.0.at, xs.1)) _ (and_then ! (load ! (at_spot ! at-4) (look ! 5 refl)) (and_then ! (load ! (at_spot ! at_5) (look ! 3 refl)) (arguments ! κs Ps bs xs.1 _ 2 (stands 𝓤 H Ps bs rest (Q.ty, l₀) (T'.mir (named 0), l₁))))) (λ u r e is.
+      land ! (at_spot ! at-3) (init ! 8 refl (R.typed 𝓛 κs r u is)) $ move ! (2 ∷ []) $ split ! $ move ! (2 ∷ 3 ∷ 0 ∷ []) $ use3 𝓛 (raw (Ask-g Ps R Q f g 𝓛 κs qs xs r u)) (goes Ps R Q f g 𝓛 κs qs xs r u) $
+      calls ! (fm_of 𝓤 H 𝓛.laws 𝓣) (bytes ∷ R ∷ []) Q (ψ Ps R Q f g) known.1 κs qs (s, (r, tt)) _ (and_then ! (load ! (at_spot ! at-2) (look ! 9 refl)) (and_then ! (load ! (at_spot ! at-3) (look ! 7 refl)) (no_more !))) (λ u' t e' is'.
       land ! (from ! (stop !)) (init ! 14 refl (Q.typed 𝓛 κs t u' is')) $
       -- [what the answer owns; the token; all; the further parameters; the place; …; the bytes again; …; f's answer; …; the bytes; …; the reader; …; the answer; …]
       returns ! (look ! 14 refl) $ forget ! 4 refl $ forget ! 6 refl $ forget ! 8 refl $ forget ! 10 refl $ forget ! 12 refl $ forget ! 14 refl $

@@ -133,9 +133,9 @@ module _ (κs : Lfts 1) where
   fits-none [] xs = tt
   fits-none (P ∷ Ps) xs = (tt, fits-none Ps xs.1)
 
-  pub had-is : (Ps : List Param) (xs : Denots (rows Ps)) (vss : Valss (rows Ps)) → owns (rows Ps) xs vss ≡ has_of κs (slots Ps) (kept Ps) (stays Ps) xs (lasts-none Ps xs) vss
-  had-is [] xs vss = refl
-  had-is (P ∷ Ps) xs vss = ap (fsep ((row P κs).own_val xs.0 vss.0)) (had-is Ps xs.1 vss.1)
+  pub had_is : (Ps : List Param) (xs : Denots (rows Ps)) (vss : Valss (rows Ps)) → owns (rows Ps) xs vss ≡ has_of κs (slots Ps) (kept Ps) (stays Ps) xs (lasts-none Ps xs) vss
+  had_is [] xs vss = refl
+  had_is (P ∷ Ps) xs vss = ap (fsep ((row P κs).own_val xs.0 vss.0)) (had_is Ps xs.1 vss.1)
 
 module _ {M : Type 1} {𝓤 : Ura M} (𝓛 : Logic 𝓤) where
   abbrev pub copies : (κs : Lfts 1) (Ps : List Param) → Copies 𝓛 (rows κs Ps)

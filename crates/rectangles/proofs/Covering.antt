@@ -19,7 +19,7 @@ use Rattle.tile_layout.proofs.Laws.{telescope}
 use Rattle.rectangles.specs.Rectangles.{rising, has_rectangles, edge, reach}
 use Rattle.rectangles.specs.Covering.{areas, Covering}
 use Rattle.rectangles.proofs.Rising.{never_fall}
-use Rattle.rectangles.proofs.Lines.{Line, climbs, apart, found, alone, all-sums, cut_line}
+use Rattle.rectangles.proofs.Lines.{Line, climbs, apart, found, alone, all_sums, cut_line}
 
 -- so many superblocks reach over n samples, and one less does not
 reached : (n code : ℕ) → code ≤ 2 → (1 ≤ size code) × (n ≤ superblocks n code * size code) × (superblocks n code * size code < n + size code)
@@ -73,8 +73,8 @@ covering s p a t e z begins =
           )
           refl;
       whole =
-          all-sums r.line _ a.width
-          (λ row _. all-sums c.line _ (reach t.row_start_sb (size code) a.height row) (λ col _. omega arith) ∙ mul_comm a.width _)
+          all_sums r.line _ a.width
+          (λ row _. all_sums c.line _ (reach t.row_start_sb (size code) a.height row) (λ col _. omega arith) ∙ mul_comm a.width _)
           ∙ mul_comm a.height a.width;
       filled = λ col row h k. mul-le-mul {n₁ = 1} {m₁ = 1} (apart c.line col h) (apart r.line row k);
       held = λ x y h k.

@@ -20,10 +20,10 @@ module _ {A : Type 0} (f : ℕ → List A) where
 
   module _ (m : ℕ) (h : (i : ℕ) → length (f i) ≡ m) where
     -- n of them, m long each
-    pub each-length : (n : ℕ) → length (each n f) ≡ m * n
+    pub each_length : (n : ℕ) → length (each n f) ≡ m * n
     unfolding each
-    each-length zero = sym (mul-zero m)
-    each-length (suc n) = length-append (each n f) (f n) ∙ omega (arith, each-length n, h n, mul-suc m n)
+    each_length zero = sym (mul-zero m)
+    each_length (suc n) = length-append (each n f) (f n) ∙ omega (arith, each_length n, h n, mul-suc m n)
 
     -- element j of list i
     pub each_at : (n i j : ℕ) (d : A) → i < n → j < m → get_or (each n f) (m * i + j) d ≡ get_or (f i) j d
@@ -31,10 +31,10 @@ module _ {A : Type 0} (f : ℕ → List A) where
     each_at zero i j d l k = absurd (omega arith)
     each_at (suc n) i j d l k =
         ⊎_elim
-        (λ b. get_or-append (each n f) (f n) d (m * i + j) (omega (arith, each-length n, mul-le-mul_left {m = i + 1} {n = n} m (omega arith), mul-add m i 1)) ∙ each_at n i j d b k)
+        (λ b. get_or-append (each n f) (f n) d (m * i + j) (omega (arith, each_length n, mul-le-mul_left {m = i + 1} {n = n} m (omega arith), mul-add m i 1)) ∙ each_at n i j d b k)
         (λ b.
         let e : i ≡ n = omega arith in
-        ap (λ (x : ℕ). get_or (each n f ++ f n) (x + j) d) (ap (λ (x : ℕ). m * x) e ∙ sym (each-length n))
+        ap (λ (x : ℕ). get_or (each n f ++ f n) (x + j) d) (ap (λ (x : ℕ). m * x) e ∙ sym (each_length n))
         ∙ get_or-append-add (each n f) (f n) j d
         ∙ ap (λ (x : ℕ). get_or (f x) j d) (sym e))
         (lt_or_le i n)
@@ -60,4 +60,4 @@ each_each f (suc n) m = rw (suc-mul n m, each_add f (n * m) m, each_each f n m) 
 -- a list more is stored behind n that are stored
 pub store_more : (f : ℕ → List ℕ) (m : ℕ) → ((i : ℕ) → length (f i) ≡ m) → (n at next : ℕ) (before out after : List ℕ)
     → next ≡ at + m * n → out ≡ sets before at (each n f) → after ≡ sets out next (f n) → after ≡ sets before at (each (n + 1) f)
-store_more f m h n at next before out after k e g = rw (g, e, k, sym (each_more f n), sets_append before at (each n f) (f n), each-length f m h n) refl
+store_more f m h n at next before out after k e g = rw (g, e, k, sym (each_more f n), sets_append before at (each n f) (f n), each_length f m h n) refl

@@ -66,8 +66,8 @@ module _ {n most : ℕ} {e : ℕ → ℕ} (l : Line n most e) where
       sum_append (each k f) (f k)
       ∙ omega (arith, sums f c k (omega arith) h, h k (omega arith), add-mul (e k) (e (k + 1) - e k) c, ap (λ (x : ℕ). x * c) next)
 
-  pub all-sums : (f : ℕ → List ℕ) (c : ℕ) → ((i : ℕ) → i < n → sum (f i) ≡ (e (i + 1) - e i) * c) → sum (each n f) ≡ most * c
-  all-sums f c h = sums f c n (omega arith) h ∙ ap (λ (x : ℕ). x * c) l.last
+  pub all_sums : (f : ℕ → List ℕ) (c : ℕ) → ((i : ℕ) → i < n → sum (f i) ≡ (e (i + 1) - e i) * c) → sum (each n f) ≡ most * c
+  all_sums f c h = sums f c n (omega arith) h ∙ ap (λ (x : ℕ). x * c) l.last
 
 -- superblocks that reach over `most` samples, where one less does not, cut at the last sample
 pub cut_line : {n closing : ℕ} {e : ℕ → ℕ} → Line n closing e → (side most : ℕ) → 1 ≤ side → most ≤ closing * side → closing * side < most + side

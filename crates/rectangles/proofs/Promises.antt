@@ -15,18 +15,18 @@ use Rattle.getbits.proofs.Chain.{contrary}
 use Rattle.tile_layout.specs.Layout.{parse_tile_info}
 use Rattle.tile_layout.specs.declared.TileArgs.{TileArgs}
 use Rattle.tile_layout.specs.declared.TileInfo.{TileInfo}
-use Rattle.tile_layout.proofs.Demand3.{accepted-in, all-accepted, from_zero}
+use Rattle.tile_layout.proofs.Demand3.{accepted_in, all_accepted, from_zero}
 use Rattle.rectangles.specs.Rectangles.{has_rectangles, rectangle_numbers, rectangles, tile_rectangles}
 use Rattle.rectangles.specs.Places.{place}
 use Rattle.rectangles.specs.Covering.{Covering}
 use Rattle.rectangles.specs.Promises.{ReadFresh, TilesWritten}
 use Rattle.rectangles.proofs.Covering.{covering}
-use Rattle.rectangles.proofs.Places.{stands-in}
+use Rattle.rectangles.proofs.Places.{stands_in}
 
 -- the tiles of every layout that parse_tile_info accepts cover its picture
 pub layout_covers : (s : List ℕ) (p : Place) (old : TileInfo) (a : TileArgs) → is_refusal (parse_tile_info s p old a).answer ≡ false
     → Covering (parse_tile_info s p old a).info a.frame_code a.width a.height
-layout_covers s p old a e = covering s p a _ (accepted-in s p old a e) (all-accepted s p old a e) (from_zero s p old a e)
+layout_covers s p old a e = covering s p a _ (accepted_in s p old a e) (all_accepted s p old a e) (from_zero s p old a e)
 
 fresh_covers : (t : TileInfo) (code w h : ℕ) → ReadFresh t code w h → Covering t code w h
 fresh_covers t code w h f = rw (f.gives, f.coded, f.wide, f.high) at (layout_covers f.bytes f.start f.old f.args f.accepted)
@@ -57,7 +57,7 @@ promised t code w h out e =
         stands = λ ok col row l k.
             ap (λ (x : Answer × List ℕ). take 4 (drop (4 * place t col row) x.1)) e
             ∙ ap (λ (x : List ℕ). take 4 (drop (4 * place t col row) x)) (written has room all out (sym (ap (λ (x : Answer × List ℕ). is_refusal x.0) e) ∙ ok))
-            ∙ stands-in t code w h col row l k (drop (rectangle_numbers t) out);
+            ∙ stands_in t code w h col row l k (drop (rectangle_numbers t) out);
         covering = fresh_covers t code w h;
         never_4 = λ f n. not_4 has room all out (fresh_covers t code w h f).described (sym (ap (λ (x : Answer × List ℕ). number_of x.0) e) ∙ n);
       },

@@ -30,13 +30,13 @@ module _ (P : SequenceHeader → Type 0) where
       (λ _ _. h)
       (λ _. picked Kept (one.next.error || not one.value) _ _ (λ _ e. contrary refl e) (λ _ _. h))
 
-  pub accepted-header : (s : List ℕ) (p : Place) (strict : Bool)
+  pub accepted_header : (s : List ℕ) (p : Place) (strict : Bool)
       → let head = read_head s p in
       (is_refusal head.answer ≡ false → is_refusal (tiling_of head.hdr s head.next).answer ≡ false
       → (grain : Bool) → P (with_tiling head.hdr (tiling_of head.hdr s head.next).fields grain))
       → is_refusal (parse_seq_hdr s p strict).answer ≡ false → P (parse_seq_hdr s p strict).hdr
   unfolding parse_seq_hdr refused_header then
-  accepted-header s p strict whole =
+  accepted_header s p strict whole =
       let head = read_head s p in
       let tiling = tiling_of head.hdr s head.next in
       let grain = get_flag s tiling.next in

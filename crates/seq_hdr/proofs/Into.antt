@@ -17,7 +17,7 @@ use Rattle.tile_layout.specs.Limits.{no_tile_info}
 use Rattle.tile_layout.specs.declared.TileInfo.{TileInfo}
 use Rattle.tile_layout.specs.declared.TileRead.{TileRead}
 use Rattle.flat.specs.Layout.{Buffers, buffers, over_front, has_room, layout_bytes, put_layout}
-use Rattle.flat.proofs.Room.{room, three, put-room}
+use Rattle.flat.proofs.Room.{room, three, put_room}
 use Rattle.tile_info.specs.Into.{read_into}
 use Rattle.tile_info.specs.declared.TileOutcome.{TileOutcome}
 use Rattle.seq_record.specs.declared.SequenceHeader.{SequenceHeader}
@@ -43,7 +43,7 @@ module _ (u : TileInfo) (b b' : Buffers) (h : has_room b ≡ true) (e : b' ≡ p
       omega (arith, length-append u.row_start_sb (drop 65 b.row_starts_lem), ap (λ (x : Buffers). length x.row_starts_lem) put, rows, (room b h).rows, length-drop 65 b.row_starts_lem)
 
   pub room-still : has_room b' ≡ true
-  room-still = ap has_room e ∙ put-room u b col-count row_count h
+  room-still = ap has_room e ∙ put_room u b col-count row_count h
 
   behind : (xs ys : List ℕ) → length xs ≡ 65 → drop 65 (xs ++ ys) ≡ ys
   behind xs ys n = ap (λ (k : ℕ). drop k (xs ++ ys)) (sym n) ∙ drop-append_seam xs ys
@@ -92,16 +92,16 @@ rest_of strict s x = read_rest strict x.hdr.blocks.partition.sb128 x.hdr.picture
 
 -- a refused head is the header, the zero record with its answer and its place; an accepted one goes on with the rest
 module _ (s : List ℕ) (p : Place) (strict : Bool) {x : SeqRead} (e : x ≡ read_head s p) where
-  pub head-ends : is_refusal x.answer ≡ true → parse_seq_hdr s p strict ≡ x
+  pub head_ends : is_refusal x.answer ≡ true → parse_seq_hdr s p strict ≡ x
   unfolding parse_seq_hdr
-  head-ends h = through _ _ e ∙ taken _ _ _ h
+  head_ends h = through _ _ e ∙ taken _ _ _ h
 
-  pub as-refused : is_refusal x.answer ≡ true → x ≡ refused_header x.answer x.next
+  pub as_refused : is_refusal x.answer ≡ true → x ≡ refused_header x.answer x.next
   unfolding refused_header
-  as-refused h =
+  as_refused h =
       let r : Refused x = subst Refused (sym e) (head_refused s p) in
       ap (λ (hdr : SequenceHeader). record { answer = x.answer; hdr = hdr; next = x.next }) (r.zero h)
 
-  pub head-goes-on : is_refusal x.answer ≡ false → parse_seq_hdr s p strict ≡ rest_of strict s x
+  pub head_goes_on : is_refusal x.answer ≡ false → parse_seq_hdr s p strict ≡ rest_of strict s x
   unfolding parse_seq_hdr
-  head-goes-on h = through _ _ e ∙ left _ _ _ h
+  head_goes_on h = through _ _ e ∙ left _ _ _ h

@@ -5,7 +5,7 @@ use Rattle.tile_layout.specs.Limits.{size}
 
 -- the multiplier: 2 for the pair (1,2), else 1
 unfoldable pub multiplier_of : ℕ → ℕ → ℕ
-multiplier_of frame-code seq-code = pick (frame-code == 1 && seq-code == 2) 2 1
+multiplier_of frame_code_lem seq_code = pick (frame_code_lem == 1 && seq_code == 2) 2 1
 
 -- the size of a superblock for every code: one above 2, outside the domain, counts as 2
 abbrev pub size_of : ℕ → ℕ

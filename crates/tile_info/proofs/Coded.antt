@@ -6,18 +6,18 @@ use native.Mathlib.Omega.{arith}
 use Rattle.tile_layout.specs.declared.TileArgs.{TileArgs}
 use Rattle.tile_layout.specs.Limits.{in_domain, sbw, sbh, width_limit, area_limit, tile_log2}
 use Rattle.tile_layout.proofs.Domain.{domain, low_code, low_seq_code, across, limits}
-use Rattle.tile_layout.proofs.Area.{area-low}
+use Rattle.tile_layout.proofs.Area.{area_low}
 use Rattle.superblocks.specs.declared.Pair.{Pair}
 use Rattle.superblocks.specs.Counts.{multiplier_of}
 use Rattle.superblocks.proofs.Counts.{legal}
 use Rattle.tile_info.specs.Inner.{Coded}
 
 module _ {a : TileArgs} {p : Pair} (e : in_domain a ≡ true) (k : Coded a p) where
-  pub frame-code : min p.frame_code 2 ≡ a.frame_code
-  frame-code = omega (arith, k.of_frame, low_code a (domain a e))
+  pub frame_code_lem : min p.frame_code 2 ≡ a.frame_code
+  frame_code_lem = omega (arith, k.of_frame, low_code a (domain a e))
 
-  pub seq-code : min p.seq_code 2 ≡ a.seq_code
-  seq-code = omega (arith, k.of_seq, low_seq_code a (domain a e))
+  pub seq_code : min p.seq_code 2 ≡ a.seq_code
+  seq_code = omega (arith, k.of_seq, low_seq_code a (domain a e))
 
   pub multiplied : multiplier_of p.frame_code p.seq_code ≡ a.multiplier
   multiplied = rw (k.of_frame, k.of_seq) (legal _ _ _ (domain a e).pair)
@@ -34,9 +34,9 @@ pub held_area : (a : TileArgs) {x y : ℕ} → in_domain a ≡ true → x ≡ ar
 held_area a e u v =
     let d = domain a e in
     let i : max 1 (area_limit a) ≡ area_limit a = omega (arith, (limits a d).some, (limits a d).under) in
-    let j : min (sbw a * sbh a) 1048576 ≡ sbw a * sbh a = omega (arith, area-low a d) in
+    let j : min (sbw a * sbh a) 1048576 ≡ sbw a * sbh a = omega (arith, area_low a d) in
     rw (u, v, i, j) refl
 
 -- the area is small
 pub whole : (a : TileArgs) {x y : ℕ} → in_domain a ≡ true → x ≡ sbw a → y ≡ sbh a → min (x * y) 4294967295 ≡ sbw a * sbh a
-whole a e u v = rw (u, v) (omega (arith, area-low a (domain a e)))
+whole a e u v = rw (u, v) (omega (arith, area_low a (domain a e)))

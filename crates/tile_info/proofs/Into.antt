@@ -21,7 +21,7 @@ use Rattle.tile_layout.specs.Limits.{in_domain}
 use Rattle.tile_layout.specs.Layout as layout
 use Rattle.tile_layout.specs.Layout.{starts_from, non_uniform_edges, padded, invalid_tile_info, parse_tile_info}
 use Rattle.tile_layout.proofs.Cleared.{read_over_lem}
-use Rattle.tile_layout.proofs.Demand3.{demand-3}
+use Rattle.tile_layout.proofs.Demand3.{demand_3}
 use Rattle.tile_layout.proofs.Laws.{padded_length}
 use Rattle.tile_layout.proofs.Sized.{length_starts}
 use Rattle.flat.specs.Layout.{over_front, Buffers, buffers, has_room, put_layout, starts_in, layout_in}
@@ -69,8 +69,8 @@ module _ (z : TileRead) (b : Buffers) (r : TileOutcome) (after : Buffers)
       }
 
 module _ (z : TileRead) (b : Buffers) {r : TileOutcome} {after : Buffers} (w : SizedInto z b r after) where
-  pub all-kept : is_refusal z.answer ≡ false → (r, after) ≡ read_into z b
-  all-kept h = pair w.answers (w.accepted h ∙ sym (left _ _ _ h))
+  pub all_kept : is_refusal z.answer ≡ false → (r, after) ≡ read_into z b
+  all_kept h = pair w.answers (w.accepted h ∙ sym (left _ _ _ h))
 
   -- the starts are put back
   put_back : (xs now : List ℕ) {ys : List ℕ} → 65 ≤ length xs → length now ≡ length xs → drop 65 now ≡ drop 65 xs → ys ≡ over_front 65 (starts_in xs) now → ys ≡ xs
@@ -119,7 +119,7 @@ module _ (s : List ℕ) (p : Place) (b : Buffers) (a : TileArgs) {r : TileOutcom
   pub what-is-left : ((r, after) ≡ parse_tile_info_into s p b a)
       × ((has_room b ≡ true → layout_left r after ≡ z)
       × ((has_room b ≡ true → in_domain a ≡ true → Demand3 s p a (layout_left r after)) × ReadOver (layout_in b) (layout_left r after)))
-  what-is-left = (e, (read, (λ has d. subst (Demand3 s p a) (sym (read has)) (demand-3 s p (layout_in b) a d), over (has_room b) refl)))
+  what-is-left = (e, (read, (λ has d. subst (Demand3 s p a) (sym (read has)) (demand_3 s p (layout_in b) a d), over (has_room b) refl)))
 
 -- a layout that went into buffers and comes back from them
 pub whole_read : (s : List ℕ) (p : Place) (old : TileInfo) (a : TileArgs) (b : Buffers) → layout_in b ≡ old → {a' : TileArgs} {r : TileOutcome} {t i : TileInfo}
@@ -130,4 +130,4 @@ whole_read s p old a b holds {r = r} e same is =
 -- and what is promised of it
 pub promised : (s : List ℕ) (p : Place) (old : TileInfo) (a : TileArgs) {r : TileRead} → r ≡ parse_tile_info s p old a
     → (r ≡ parse_tile_info s p old a) × ((in_domain a ≡ true → Demand3 s p a r) × ReadOver old r)
-promised s p old a e = (e, rw e (demand-3 s p old a, read_over_lem s p old a))
+promised s p old a e = (e, rw e (demand_3 s p old a, read_over_lem s p old a))

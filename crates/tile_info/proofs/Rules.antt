@@ -19,7 +19,7 @@ use Rattle.tile_info.specs.declared.nonuniform.Tiles.{Tiles}
 use Rattle.tile_info.specs.Inner.{Known, TilesOf}
 
 module _ (s : List ℕ) (p : Place) {a : TileArgs} {k : FrameLimits} (n : Known a k) where
-  pub uniform-made : (c r : ℕ) (cn rn : Place) (m x y : ℕ) (xs ys : List ℕ)
+  pub uniform_made : (c r : ℕ) (cn rn : Place) (m x y : ℕ) (xs ys : List ℕ)
       → c ≡ (read_log2 s p k.min_log2_cols k.max_log2_cols).value
       → cn ≡ (read_log2 s p k.min_log2_cols k.max_log2_cols).next
       → m ≡ k.min_log2_tiles - c
@@ -47,7 +47,7 @@ module _ (s : List ℕ) (p : Place) {a : TileArgs} {k : FrameLimits} (n : Known 
       }
       ≡ uniform_layout s p a
   unfolding uniform_layout uniform_info then
-  uniform-made c r cn rn m x y xs ys cv ecn em rv ern ex exs ey eys =
+  uniform_made c r cn rn m x y xs ys cv ecn em rv ern ex exs ey eys =
       rw (ex, exs, ey, eys, rv, ern, em, cv, ecn, n.min_cols, n.max_cols, n.max_rows, n.min_tiles) refl
 
 module _ (s : List ℕ) (p : Place) (old : TileInfo) {a : TileArgs} {k : FrameLimits} (n : Known a k) where
@@ -55,27 +55,27 @@ module _ (s : List ℕ) (p : Place) (old : TileInfo) {a : TileArgs} {k : FrameLi
   abbrev pub sizes : Sizes
   sizes = read_sizes 64 s p k.sbw.0 k.max_tile_width_sb.0
 
-  sizes-are : sizes ≡ read_cols s p a
+  sizes_are : sizes ≡ read_cols s p a
   unfolding read_cols
-  sizes-are = rw (n.across, n.wide) refl
+  sizes_are = rw (n.across, n.wide) refl
 
   module _ {rest xs : List ℕ} (c : Tiles) (z : TilesOf sizes k.sbw.0 c rest xs) where
     cols : TilesOf (read_cols s p a) (sbw a) c rest xs
-    cols = rw (sizes-are, n.across) at z
+    cols = rw (sizes_are, n.across) at z
 
-    pub cols-short : c.short ≡ true → invalid_tile_info old c.next ≡ non_uniform_layout s p old a
+    pub cols_short : c.short ≡ true → invalid_tile_info old c.next ≡ non_uniform_layout s p old a
     unfolding non_uniform_layout
-    cols-short e = sym (through _ _ refl ∙ taken _ _ _ (sym cols.left ∙ e) ∙ ap (invalid_tile_info old) (sym cols.stands))
+    cols_short e = sym (through _ _ refl ∙ taken _ _ _ (sym cols.left ∙ e) ∙ ap (invalid_tile_info old) (sym cols.stands))
 
     -- the rows, behind columns that suffice
     module _ {rest' ys : List ℕ} (r : Tiles) (h : ℕ) (e : c.short ≡ false) (eh : h ≡ row_limit a c.widest.0)
         (y : TilesOf (read_sizes 64 s c.next k.sbh.0 h) k.sbh.0 r rest' ys) where
-      heights-are : read_sizes 64 s c.next k.sbh.0 h ≡ read_rows s (read_cols s p a) a
+      heights_are : read_sizes 64 s c.next k.sbh.0 h ≡ read_rows s (read_cols s p a) a
       unfolding read_rows
-      heights-are = rw (eh, cols.wides, cols.stands, n.down) refl
+      heights_are = rw (eh, cols.wides, cols.stands, n.down) refl
 
       rows : TilesOf (read_rows s (read_cols s p a) a) (sbh a) r rest' ys
-      rows = rw (heights-are, n.down) at y
+      rows = rw (heights_are, n.down) at y
 
       pub rows_short : r.short ≡ true → invalid_tile_info old r.next ≡ non_uniform_layout s p old a
       unfolding non_uniform_layout
@@ -102,11 +102,11 @@ module _ (s : List ℕ) (p : Place) (old : TileInfo) {a : TileArgs} {k : FrameLi
             row_start_sb = padded (non_uniform_edges (read_sizes 64 s c.next k.sbh.0 h).sizes k.sbh.0);
           }
 
-      pub sized-made : r.short ≡ false → (m : ℕ) → m ≡ old.min_log2_rows
+      pub sized_made : r.short ≡ false → (m : ℕ) → m ≡ old.min_log2_rows
           → record { answer = Accepted; info = sized m; next = r.next } ≡ non_uniform_layout s p old a
       unfolding non_uniform_layout non_uniform_info
-      sized-made f m em =
-          rw (em, n.min_cols, n.max_cols, n.max_rows, cols.log, cols.counted, rows.log, rows.counted, rows.stands, heights-are, sizes-are, n.across, n.down)
+      sized_made f m em =
+          rw (em, n.min_cols, n.max_cols, n.max_rows, cols.log, cols.counted, rows.log, rows.counted, rows.stands, heights_are, sizes_are, n.across, n.down)
           (sym (through _ _ refl ∙ left _ _ _ (sym cols.left ∙ e) ∙ through _ _ refl ∙ left _ _ _ (sym rows.left ∙ f)))
 
 -- at most 64 superblocks across and down: no refusal

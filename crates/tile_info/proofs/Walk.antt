@@ -77,12 +77,12 @@ module _ (s : List ℕ) (total limit : ℕ) (start : Place) (rest : List ℕ) wh
       })
 
   -- one size more, z, as the program has it
-  pub walk-next : {at then_at : List ℕ} {p q : Place} {x n wide z y v r : ℕ} → Walked at p x n wide → x < total → n < 64 → total ≤ 1024 → 1 ≤ limit
+  pub walk_next : {at then_at : List ℕ} {p q : Place} {x n wide z y v r : ℕ} → Walked at p x n wide → x < total → n < 64 → total ≤ 1024 → 1 ≤ limit
       → r ≡ total - x → z ≡ (get_uniform s p (min r limit)).value + 1 → q ≡ (get_uniform s p (min r limit)).next
       → then_at ≡ set at n (x % 65536) → y ≡ max wide z → v ≡ (x + z) % 4294967296
       → Walked then_at q v (n + 1) y
   unfolding sum
-  walk-next {at} {then_at} {p} {q} {x} {n} {wide} {z} {y} {v} {r} w h k low some er ez eq ea ey ev =
+  walk_next {at} {then_at} {p} {q} {x} {n} {wide} {z} {y} {v} {r} w h k low some er ez eq ea ey ev =
       let f : 64 - n ≡ suc (64 - (n + 1)) = omega arith in
       let zr : z ≤ r = omega (arith, uniform_lt s p (min r limit) (omega arith)) in
       let j : r - z ≡ total - (x + z) = omega arith in
@@ -121,7 +121,7 @@ module _ (s : List ℕ) (total limit : ℕ) (start : Place) (rest : List ℕ) wh
       let q : total - r.sum.0 ≡ 0 = omega arith in
       ended r w (rw q (nothing_left (64 - r.tiles) s r.next limit))
 
-  pub all-used : {at : List ℕ} (r : Sizes) → Walked at r.next r.sum.0 r.tiles r.widest.0 → 64 ≤ r.tiles → SizesOf (read_sizes 64 s start total limit) r rest at
-  all-used r w h =
+  pub all_used : {at : List ℕ} (r : Sizes) → Walked at r.next r.sum.0 r.tiles r.widest.0 → 64 ≤ r.tiles → SizesOf (read_sizes 64 s start total limit) r rest at
+  all_used r w h =
       let q : 64 - r.tiles ≡ 0 = omega arith in
       ended r w (rw q (no_more s r.next (total - r.sum.0) limit))

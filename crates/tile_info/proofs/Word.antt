@@ -25,10 +25,10 @@ module _ (s : List ℕ) (p : Place) (word : ℕ) (w : word ≡ look_at s p 32) w
   unfolding get_bit
   first_bit = ap (λ (r : Number). r.value) (sym (read_settled s p 1) ∙ ap (λ (r : Number). read_bits s r.next 1) (sym (read_none s p)) ∙ bit_behind s p 0)
 
-  pub flag-set : 2147483648 ≤ word → (get_flag s p).value ≡ true
+  pub flag_set : 2147483648 ≤ word → (get_flag s p).value ≡ true
   unfolding get_flag
-  flag-set h = eq-eqb (get_bit s p).value 1 (first_bit ∙ is_one s (position s p) word looked 0 (omega arith) (omega (arith, whole)))
+  flag_set h = eq-eqb (get_bit s p).value 1 (first_bit ∙ is_one s (position s p) word looked 0 (omega arith) (omega (arith, whole)))
 
-  pub flag-unset : word < 2147483648 → (get_flag s p).value ≡ false
+  pub flag_unset : word < 2147483648 → (get_flag s p).value ≡ false
   unfolding get_flag
-  flag-unset h = ne_eqb (get_bit s p).value 1 (λ e. omega (arith, e, first_bit, is_zero s (position s p) word looked 0 (omega arith) (omega (arith, whole))))
+  flag_unset h = ne_eqb (get_bit s p).value 1 (λ e. omega (arith, e, first_bit, is_zero s (position s p) word looked 0 (omega arith) (omega (arith, whole))))

@@ -1,4 +1,4 @@
--- The logarithms stay within 6, and the tiles of a non-uniform layout within the area limit. Assumes nothing.
+-- The logarithms stay within 6, and the tiles of a non_uniform layout within the area limit. Assumes nothing.
 use mathlib.Core.Path.{◌≡◌, sym, ◌∙◌, ap, subst}
 use Prim.Native.Nat.{ℕ, zero, suc, ◌+◌, ◌-◌, ◌*◌, ◌/◌, ◌^◌, min, max, ◌≤◌}
 use native.Mathlib.Nat.{mul_assoc, mul_right_comm, mul-le-mul, mul-le-mul_left, mul-le-mul_right, le_of_mul-le-mul_right, le_trans, le_of_eq, mul-div-le, div-le_of_le-mul, mul-one, mul_comm}
@@ -44,27 +44,27 @@ module _ (a : TileArgs) (d : InDomain a) where
       le_trans (reaches 20 (width_limit a) (sbw a) (omega (arith, (across a d).most_all, lim.some)))
       (mul-le-mul_left (width_limit a) (pow_mono h))
 
-  pub min-rows : (log : ℕ) → min_log2_cols a ≤ log → min_log2_tiles a - log ≤ 6
+  pub min_rows : (log : ℕ) → min_log2_cols a ≤ log → min_log2_tiles a - log ≤ 6
   unfolding min_log2_tiles
-  min-rows log h =
+  min_rows log h =
       let fit : sbw a * sbh a ≤ area_limit a * (2 ^ log * 64) =
       area_fits (sbw a) (sbh a) (width_limit a) (2 ^ log) (area_limit a) (2 ^ a.frame_code) (pow_pos a.frame_code) (covers log h) (down a d).most lim.wide in
       let tiles : tile_log2 (area_limit a) (sbw a * sbh a) ≤ log + 6 =
       least 20 (area_limit a) (sbw a * sbh a) (log + 6) (rw (pow-add 2 log 6) fit) in
       omega arith
 
-  pub area-low : sbw a * sbh a ≤ 1048576
-  area-low = mul-le-mul (across a d).most_all (down a d).most_all
+  pub area_low : sbw a * sbh a ≤ 1048576
+  area_low = mul-le-mul (across a d).most_all (down a d).most_all
 
-  area-covers : sbw a * sbh a ≤ area_limit a * 2 ^ min_log2_tiles a
+  area_covers : sbw a * sbh a ≤ area_limit a * 2 ^ min_log2_tiles a
   unfolding min_log2_tiles
-  area-covers =
-      le_trans (reaches 20 (area_limit a) (sbw a * sbh a) (omega (arith, area-low, lim.some, lim.under)))
+  area_covers =
+      le_trans (reaches 20 (area_limit a) (sbw a * sbh a) (omega (arith, area_low, lim.some, lim.under)))
       (mul-le-mul_left (area_limit a) (pow_mono (omega arith)))
 
-  pub row-area : row_area a ≤ area_limit a
+  pub row_area_lem : row_area a ≤ area_limit a
   unfolding row_area
-  row-area = go (min_log2_tiles a) area-covers
+  row_area_lem = go (min_log2_tiles a) area_covers
     where
       go : (t : ℕ) → sbw a * sbh a ≤ area_limit a * 2 ^ t → pick (eqb t 0) (sbw a * sbh a) (sbw a * sbh a / 2 ^ (t + 1)) ≤ area_limit a
       go zero h = omega (arith, mul-one (area_limit a))
@@ -73,17 +73,17 @@ module _ (a : TileArgs) (d : InDomain a) where
           (div-le_of_le-mul (2 ^ (suc t + 1))
           (le_trans h (le_trans (mul-le-mul_left (area_limit a) (pow_mono (omega arith))) (le_of_eq (mul_comm (area_limit a) (2 ^ (suc t + 1)))))))
 
-  pub tile-area : (w : ℕ) → w ≤ width_limit a → w * row_limit a w ≤ area_limit a
+  pub tile_area : (w : ℕ) → w ≤ width_limit a → w * row_limit a w ≤ area_limit a
   unfolding row_limit
-  tile-area w h =
+  tile_area w h =
       elim (dec_le (row_area a / w) 1) [
         | yes y ↦
             let q : 1 ≡ max 1 (row_area a / w) = omega arith in
             subst (λ (q : ℕ). w * q ≤ area_limit a) q (omega (arith, mul-one w, lim.under))
         | no n ↦
             let q : row_area a / w ≡ max 1 (row_area a / w) = omega arith in
-            subst (λ (q : ℕ). w * q ≤ area_limit a) q (le_trans (mul-div-le (row_area a) w) row-area)
+            subst (λ (q : ℕ). w * q ≤ area_limit a) q (le_trans (mul-div-le (row_area a) w) row_area_lem)
       ]
 
-  pub low-tiles : min_log2_tiles a ≤ 12
-  low-tiles = omega (arith, min-rows (min_log2_cols a) (omega arith), min_cols)
+  pub low_tiles : min_log2_tiles a ≤ 12
+  low_tiles = omega (arith, min_rows (min_log2_cols a) (omega arith), min_cols)

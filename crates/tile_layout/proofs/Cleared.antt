@@ -41,8 +41,8 @@ sized_cleared a old widths heights =
     }
 
 module _ {old : TileInfo} (z : TileRead) where
-  pub accepted-over : is_refusal z.answer ≡ false → Cleared z.info → ReadOver old z
-  accepted-over e c = record { cleared = λ _. c; kept = λ f. contrary f e }
+  pub accepted_over : is_refusal z.answer ≡ false → Cleared z.info → ReadOver old z
+  accepted_over e c = record { cleared = λ _. c; kept = λ f. contrary f e }
 
   pub refused_over : is_refusal z.answer ≡ true → z.info ≡ old → ReadOver old z
   refused_over e k = record { cleared = λ f. contrary e f; kept = λ _. k }
@@ -54,7 +54,7 @@ sizes_over s p old a =
     let r = read_rows s c a in
     picked (ReadOver old) (ltb (sum c.sizes) (sbw a)) _ _ (λ _. refused_over _ refl refl)
     (λ _. picked (ReadOver old) (ltb (sum r.sizes) (sbh a)) _ _ (λ _. refused_over _ refl refl)
-    (λ _. accepted-over _ refl (sized_cleared a old c.sizes r.sizes)))
+    (λ _. accepted_over _ refl (sized_cleared a old c.sizes r.sizes)))
 
 -- whatever the bytes, the place and the arguments
 pub read_over_lem : (s : List ℕ) (p : Place) (old : TileInfo) (a : TileArgs) → ReadOver old (parse_tile_info s p old a)
@@ -62,5 +62,5 @@ unfolding parse_tile_info uniform_layout then
 read_over_lem s p old a =
     let f = get_flag s p in
     picked (ReadOver old) (in_domain a) _ _
-    (λ _. picked (ReadOver old) f.value _ _ (λ _. accepted-over _ refl (uniform_cleared a _ _)) (λ _. sizes_over s f.next old a))
+    (λ _. picked (ReadOver old) f.value _ _ (λ _. accepted_over _ refl (uniform_cleared a _ _)) (λ _. sizes_over s f.next old a))
     (λ _. refused_over _ refl refl)

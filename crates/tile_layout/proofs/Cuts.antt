@@ -8,9 +8,9 @@ use native.Mathlib.Omega.{arith}
 use lib.ListN.{length, get_or}
 use Rattle.tile_layout.specs.Layout.{count, start_at, sum, tabulate, padded, non_uniform_edges}
 use Rattle.tile_layout.proofs.Laws.{telescope}
-use Rattle.tile_layout.proofs.Even.{Step, even, few-tiles}
+use Rattle.tile_layout.proofs.Even.{Step, even, few_tiles}
 use Rattle.tile_layout.proofs.Domain.{Along, Pair, pairs}
-use Rattle.tile_layout.proofs.Sized.{Sized, edge-zeroth, edge-closing, gap}
+use Rattle.tile_layout.proofs.Sized.{Sized, edge_zeroth, edge_closing, gap}
 
 -- n tiles between the edges e 0, .., e n cover `closing` superblocks, none empty and none above the limit
 pub record Cut (n closing limit : ℕ) (e : ℕ → ℕ) : Type 0 where
@@ -36,11 +36,11 @@ cut {n} {closing} {limit} {e} some few first last step =
       adds = omega (arith, telescope e 0 n (λ i _ h. omega (arith, step i (omega arith))), ap e (zero-add n));
     }
 
--- the sizes that the non-uniform rule reads, where they fill the frame
+-- the sizes that the non_uniform rule reads, where they fill the frame
 pub sized_cut : (sizes : List ℕ) (closing limit : ℕ) → Sized 64 closing limit sizes → sum sizes ≡ closing → 1 ≤ closing
     → Cut (length sizes) closing limit (λ k. get_or (padded (non_uniform_edges sizes closing)) k 0)
 sized_cut sizes closing limit z whole h =
-    cut (z.some (omega arith) h) z.few (edge-zeroth sizes closing whole) (edge-closing sizes closing whole)
+    cut (z.some (omega arith) h) z.few (edge_zeroth sizes closing whole) (edge_closing sizes closing whole)
     (λ i l. omega (arith, gap sizes closing whole i l, z.each i l))
 
 -- what is between tile i and the next, from what is between inner tiles and before the end
@@ -66,7 +66,7 @@ module _ (full all log limit closing : ℕ) (some_full : 1 ≤ full) (full_le : 
       each (Step c.low limit) (count full all log) closing e end
       (λ i h. omega (arith, c.inner i h, starts i (omega arith), starts (i + 1) h))
       (λ i h. omega (arith, c.last i h, starts i (omega arith))) in (
-        cut c.few (few-tiles full all log limit some_full full_le le_full l (omega arith) log≤) (omega (arith, c.zeroth, starts 0 c.few)) end
+        cut c.few (few_tiles full all log limit some_full full_le le_full l (omega arith) log≤) (omega (arith, c.zeroth, starts 0 c.few)) end
             (λ i h. omega (arith, step i h, c.some)),
         λ i k h g. omega (arith, step i h, step k g),
       )
@@ -77,7 +77,7 @@ module _ (full all log limit closing : ℕ) (some_full : 1 ≤ full) (full_le : 
   two l half inside reaches starts =
       let doubled : limit * 2 ^ log ≡ 2 * (limit / 2 * 2 ^ log) = ap (λ (x : ℕ). x * 2 ^ log) half ∙ mul_assoc 2 (limit / 2) (2 ^ log) in
       let c = even full all log (limit / 2) some_full full_le le_full l (omega arith) in
-      cut c.few (few-tiles full all log (limit / 2) some_full full_le le_full l (omega arith) log≤) (omega (arith, c.zeroth, starts 0 c.few)) end
+      cut c.few (few_tiles full all log (limit / 2) some_full full_le le_full l (omega arith) log≤) (omega (arith, c.zeroth, starts 0 c.few)) end
       (each (λ x y. (x < y) × (y ≤ x + limit)) (count full all log) closing e end
       (λ i h. omega (arith, c.inner i h, c.some, starts i (omega arith), starts (i + 1) h))
       (λ i h. omega (arith, c.last i h, c.some, starts i (omega arith))))

@@ -38,8 +38,8 @@ module _ (full all log most : ℕ) (some_full : 1 ≤ full) (full_le : full ≤ 
         let tight : most * 2 ^ log ≤ suc b * 2 ^ log = mul-le-mul_right (2 ^ log) (omega arith) in
         (omega arith, omega (arith, split), omega (arith, split))
 
-    last-start : (i : ℕ) → i + 1 ≡ 2 ^ log → suc b * i + full % 2 ^ log + suc b ≡ full
-    last-start i h =
+    last_start : (i : ℕ) → i + 1 ≡ 2 ^ log → suc b * i + full % 2 ^ log + suc b ≡ full
+    last_start i h =
         let q : suc b * 2 ^ log ≡ suc b * i + suc b = ap (◌*◌ (suc b)) (sym h) ∙ times_next (suc b) i in
         omega (arith, split)
 
@@ -55,8 +55,8 @@ module _ (full all log most : ℕ) (some_full : 1 ≤ full) (full_le : full ≤ 
             | no r ↦ omega (arith, times_next (suc b) i, room r)
           ];
           last = λ i h. elim (dec_le (suc (suc b)) most) [
-            | yes r ↦ omega (arith, last-start i h, mod-lt full (pow_pos log))
-            | no r ↦ omega (arith, last-start i h, mod-lt full (pow_pos log), room r)
+            | yes r ↦ omega (arith, last_start i h, mod-lt full (pow_pos log))
+            | no r ↦ omega (arith, last_start i h, mod-lt full (pow_pos log), room r)
           ];
         }
 
@@ -82,9 +82,9 @@ module _ (full all log most : ℕ) (some_full : 1 ≤ full) (full_le : full ≤ 
       go (suc b) e = rw (eqb-suc-zero b) (several b e)
 
   -- no more than 64 tiles
-  pub few-tiles : log ≤ 6 → count full all log ≤ 64
+  pub few_tiles : log ≤ 6 → count full all log ≤ 64
   unfolding count base
-  few-tiles h = go (full / 2 ^ log) refl
+  few_tiles h = go (full / 2 ^ log) refl
     where
       go : (q : ℕ) → full / 2 ^ log ≡ q → pick (eqb q 0) all (2 ^ log) ≤ 64
       go zero e =

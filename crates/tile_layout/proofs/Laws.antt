@@ -50,8 +50,8 @@ behind_closing xs closing n e k h =
     zeros_behind (65 - length edges) edges k (omega (arith, length-append xs (closing ∷ [])))
 
 module _ (f : ℕ → ℕ) (n closing : ℕ) where
-  pub start-at : (k : ℕ) → k < n → get_or (padded (tabulate f 0 n ++ (closing ∷ []))) k 0 ≡ f k
-  start-at k h =
+  pub start_at_lem : (k : ℕ) → k < n → get_or (padded (tabulate f 0 n ++ (closing ∷ []))) k 0 ≡ f k
+  start_at_lem k h =
       let l = length_tabulate f 0 n in
       padded_at (tabulate f 0 n) closing k (omega arith)
       ∙ get_or-append (tabulate f 0 n) (closing ∷ []) 0 k (omega arith)

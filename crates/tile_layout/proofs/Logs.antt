@@ -72,8 +72,8 @@ module _ (a b sz tgt : ℕ) (under : sz < 2 ^ a) (top : 2 ^ a ≤ 2 * sz + 1) (t
     reached : tgt ≤ sz * 2 ^ doublings 20 sz tgt
     reached = reaches 20 sz tgt (omega (arith, low, mul-le-mul_right (2 ^ 20) some))
 
-    pub log-more : sz * 2 ^ (b - a) < tgt → doublings 20 sz tgt ≡ b - a + 1
-    log-more h =
+    pub log_more : sz * 2 ^ (b - a) < tgt → doublings 20 sz tgt ≡ b - a + 1
+    log_more h =
         let d = doublings 20 sz tgt in
         ⊎_elim
         (λ l. omega (arith, least 20 sz tgt (b - a + 1) (enough (b - a) refl)))

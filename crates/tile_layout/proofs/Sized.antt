@@ -1,4 +1,4 @@
--- The sizes of a non-uniform layout, and the edges that they give. Assumes nothing.
+-- The sizes of a non_uniform layout, and the edges that they give. Assumes nothing.
 use mathlib.Core.Path.{◌≡◌, refl, sym, ◌∙◌, ap}
 use mathlib.Core.List.{List, [], ◌∷◌, ◌++◌}
 use Prim.Native.Nat.{ℕ, zero, suc, ◌+◌, ◌-◌, min, ◌≤◌, ◌<◌}
@@ -92,11 +92,11 @@ module _ (sizes : List ℕ) (closing : ℕ) (whole : sum sizes ≡ closing) wher
   same_at : (k : ℕ) → k ≤ length sizes → edge k ≡ get_or (starts_from 0 sizes ++ (closing ∷ [])) k 0
   same_at k h = padded_at (starts_from 0 sizes) closing k (omega (arith, length_starts sizes 0))
 
-  pub edge-zeroth : edge 0 ≡ 0
-  edge-zeroth = same_at 0 (omega arith) ∙ edge_first sizes 0 closing (omega arith)
+  pub edge_zeroth : edge 0 ≡ 0
+  edge_zeroth = same_at 0 (omega arith) ∙ edge_first sizes 0 closing (omega arith)
 
-  pub edge-closing : edge (length sizes) ≡ closing
-  edge-closing = same_at (length sizes) (omega arith) ∙ edge_last sizes 0 closing
+  pub edge_closing : edge (length sizes) ≡ closing
+  edge_closing = same_at (length sizes) (omega arith) ∙ edge_last sizes 0 closing
 
   -- between two of them is the size that was read
   pub gap : (k : ℕ) → k < length sizes → edge (k + 1) ≡ edge k + get_or sizes k 0

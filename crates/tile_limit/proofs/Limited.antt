@@ -15,7 +15,7 @@ use Rattle.getbits.proofs.Chain.{contrary, picked, left}
 use Rattle.tile_layout.specs.Demand3.{AcceptedLayout}
 use Rattle.tile_layout.specs.Layout.{parse_tile_info}
 use Rattle.tile_layout.specs.Cleared.{ReadOver}
-use Rattle.tile_layout.proofs.Demand3.{all-accepted}
+use Rattle.tile_layout.proofs.Demand3.{all_accepted}
 use Rattle.tile_layout.proofs.Cleared.{refused_over, read_over_lem}
 use Rattle.tile_layout.specs.declared.TileArgs.{TileArgs}
 use Rattle.tile_layout.specs.declared.TileInfo.{TileInfo}
@@ -28,7 +28,7 @@ use Rattle.frame_layout.proofs.Cleared.{frame_over}
 use Rattle.tile_limit.specs.Promises.{Over, Limited, LimitedTiles, FreshAccepted, LimitedFrame}
 use Rattle.tile_limit.specs.Within.{wall, is_too_many, tiles_within, frame_within, parse_tile_info_within, parse_tile_info_frmhdr_within}
 use Rattle.tile_limit.specs.declared.TileLimit.{TileLimit}
-use Rattle.tile_limit.proofs.OnWall.{OnWall, tiles_on_wall, frame-accepted, frame-on-wall}
+use Rattle.tile_limit.proofs.OnWall.{OnWall, tiles_on_wall, frame_accepted, frame_on_wall}
 
 -- the three tests, where they say too many and where they don't
 some : (r a b : Bool) → not r && (a || b) ≡ true → (r ≡ false) × ((a ≡ true) ⊎ (b ≡ true))
@@ -50,48 +50,48 @@ module _ (m : TileLimit) (w : TileRead) where
   abbrev rows-over : Bool
   rows-over = ltb m.rows w.info.rows
 
-  accepted-too-many : is_too_many m w ≡ true → (is_refusal w.answer ≡ false) × Over m w.info
-  accepted-too-many e =
+  accepted_too_many : is_too_many m w ≡ true → (is_refusal w.answer ≡ false) × Over m w.info
+  accepted_too_many e =
       let h = some (is_refusal w.answer) cols-over rows-over e in
       (h.0, ⊎_elim (λ k. inl (ltb-true m.cols w.info.cols k)) (λ k. inr (ltb-true m.rows w.info.rows k)) h.1)
 
-  not-too-many : is_too_many m w ≡ false → is_refusal w.answer ≡ false → (w.info.cols ≤ m.cols) × (w.info.rows ≤ m.rows)
-  not-too-many e r =
+  not_too_many : is_too_many m w ≡ false → is_refusal w.answer ≡ false → (w.info.cols ≤ m.cols) × (w.info.rows ≤ m.rows)
+  not_too_many e r =
       let h = neither (is_refusal w.answer) cols-over rows-over e r in
       (ltb-false m.cols w.info.cols h.0, ltb-false m.rows w.info.rows h.1)
 
   -- the wall never has more than the wall's limit
-  never-on-wall : OnWall w → m ≡ wall → is_refusal w.answer ≡ false → Over m w.info → ⊥
-  never-on-wall o e r over =
+  never_on_wall : OnWall w → m ≡ wall → is_refusal w.answer ≡ false → Over m w.info → ⊥
+  never_on_wall o e r over =
       ⊎_elim (λ k. omega (arith, k, o.few_cols r, ap (λ (x : TileLimit). x.cols) e)) (λ k. omega (arith, k, o.few_rows r, ap (λ (x : TileLimit). x.rows) e)) over
 
-  none-on-wall : OnWall w → m ≡ wall → is_too_many m w ≡ false
-  none-on-wall o e = by (is_too_many m w) refl
+  none_on_wall : OnWall w → m ≡ wall → is_too_many m w ≡ false
+  none_on_wall o e = by (is_too_many m w) refl
     where
       by : (t : Bool) → is_too_many m w ≡ t → is_too_many m w ≡ false
       by false t = t
-      by true t = let h = accepted-too-many t in absurd (never-on-wall o e h.0 h.1)
+      by true t = let h = accepted_too_many t in absurd (never_on_wall o e h.0 h.1)
 
   limited : (old : TileInfo) → OnWall w → Limited m w (tiles_within m old w)
   unfolding tiles_within
   limited old o =
       picked (Limited m w) (is_too_many m w) _ _
       (λ t.
-      let h = accepted-too-many t in
+      let h = accepted_too_many t in
       record {
         few_cols = λ r. contrary refl r;
         few_rows = λ r. contrary refl r;
         six = λ _ _. refl;
         six_accepted = λ _. h.0;
         six_over = λ _. h.1;
-        wall_never_6 = λ e _. never-on-wall o e h.0 h.1;
+        wall_never_6 = λ e _. never_on_wall o e h.0 h.1;
       })
       (λ t.
       record {
-        few_cols = λ r. (not-too-many t r).0;
-        few_rows = λ r. (not-too-many t r).1;
+        few_cols = λ r. (not_too_many t r).0;
+        few_rows = λ r. (not_too_many t r).1;
         six = λ r over.
-            let h = not-too-many t r in
+            let h = not_too_many t r in
             absurd (⊎_elim (λ k. omega (arith, k, h.0)) (λ k. omega (arith, k, h.1)) over);
         six_accepted = λ n. absurd (o.never_6 n);
         six_over = λ n. absurd (o.never_6 n);
@@ -127,21 +127,21 @@ limited_tiles s p old a m =
     let o = tiles_on_wall s p old a in
     record {
       limited = limited m w old o;
-      accepted = within_accepted (AcceptedLayout s p a) m old w (all-accepted s p old a);
+      accepted = within_accepted (AcceptedLayout s p a) m old w (all_accepted s p old a);
       over = within_over m old w (read_over_lem s p old a);
-      as_on_wall = λ e. left _ _ _ (none-on-wall m w o e);
+      as_on_wall = λ e. left _ _ _ (none_on_wall m w o e);
     }
 
 pub limited_frame : (s : List ℕ) (p : Place) (h : FrameHeader) (q : SeqLayout) (m : TileLimit) → LimitedFrame s p h q m (parse_tile_info_frmhdr_within s p h q m)
 unfolding frame_within
 limited_frame s p h q m =
     let z = parse_tile_info_frmhdr s p h q in
-    let o = frame-on-wall s p h q in
+    let o = frame_on_wall s p h q in
     let same = sym (tiles_of m h z) in
     record {
       limited = subst (Limited m (frame_tiles z)) same (limited m (frame_tiles z) h.tiling o);
       accepted = subst (λ (x : TileRead). is_refusal x.answer ≡ false → FreshAccepted s p h q x.info) same
-          (within_accepted (FreshAccepted s p h q) m h.tiling (frame_tiles z) (frame-accepted s p h q));
+          (within_accepted (FreshAccepted s p h q) m h.tiling (frame_tiles z) (frame_accepted s p h q));
       over = subst (ReadOver h.tiling) same (within_over m h.tiling (frame_tiles z) (frame_over s p h q));
-      as_on_wall = λ e. left _ _ _ (none-on-wall m (frame_tiles z) o e);
+      as_on_wall = λ e. left _ _ _ (none_on_wall m (frame_tiles z) o e);
     }

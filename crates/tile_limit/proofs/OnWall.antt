@@ -16,13 +16,13 @@ use Rattle.tile_layout.specs.Limits.{in_domain, sbw, sbh}
 use Rattle.tile_layout.specs.declared.TileArgs.{TileArgs}
 use Rattle.tile_layout.specs.declared.TileInfo.{TileInfo}
 use Rattle.tile_layout.specs.declared.TileRead.{TileRead}
-use Rattle.tile_layout.proofs.Demand3.{all-accepted}
+use Rattle.tile_layout.proofs.Demand3.{all_accepted}
 use Rattle.frame_layout.specs.Frame.{in_frame_domain, read_reuse, reuse_allowed, ask_reuse, reused_info, frame_args, fresh_layout, parse_tile_info_frmhdr, frame_tiles}
 use Rattle.frame_layout.specs.declared.FrameHeader.{FrameHeader}
 use Rattle.frame_layout.specs.declared.FrameRead.{FrameRead}
 use Rattle.frame_layout.specs.declared.SeqLayout.{SeqLayout}
 use Rattle.frame_layout.proofs.Fresh.{fresh_demand_3}
-use Rattle.frame_layout.proofs.Usable.{Tiled, usable_tiles_lem, frame-usable, allowed_only, reused_tiled}
+use Rattle.frame_layout.proofs.Usable.{Tiled, usable_tiles_lem, frame_usable, allowed_only, reused_tiled}
 use Rattle.tile_limit.specs.Promises.{FreshAccepted}
 
 -- the wall accepts at most 64 columns and 64 rows, and never answers 6
@@ -55,8 +55,8 @@ tiles_not_6 s p old a =
 pub tiles_on_wall : (s : List ℕ) (p : Place) (old : TileInfo) (a : TileArgs) → OnWall (parse_tile_info s p old a)
 tiles_on_wall s p old a =
     record {
-      few_cols = λ e. (all-accepted s p old a e).most_cols;
-      few_rows = λ e. (all-accepted s p old a e).most_rows;
+      few_cols = λ e. (all_accepted s p old a e).most_cols;
+      few_rows = λ e. (all_accepted s p old a e).most_rows;
       never_6 = tiles_not_6 s p old a;
     }
 
@@ -70,8 +70,8 @@ module _ (s : List ℕ) (p : Place) (h : FrameHeader) (q : SeqLayout) where
   unfolding parse_tile_info_frmhdr
   outside d = ap (λ (z : FrameRead). is_refusal z.answer) (left _ _ _ d)
 
-  pub frame-accepted : is_refusal read.answer ≡ false → FreshAccepted s p h q read.hdr.tiling
-  frame-accepted e f = by (in_frame_domain h q) refl
+  pub frame_accepted : is_refusal read.answer ≡ false → FreshAccepted s p h q read.hdr.tiling
+  frame_accepted e f = by (in_frame_domain h q) refl
     where
       by : (d : Bool) → in_frame_domain h q ≡ d → AcceptedLayout s (read_reuse s p (frame_args h q) q).next (frame_args h q) read.hdr.tiling
       by true d = (fresh_demand_3 s p h q d f).accepted e
@@ -80,34 +80,34 @@ module _ (s : List ℕ) (p : Place) (h : FrameHeader) (q : SeqLayout) where
   -- a layout that is reused is the sequence's, which is usable
   tiled : in_frame_domain h q ≡ true → (read_reuse s p (frame_args h q) q).value ≡ true → Tiled q.t
   unfolding read_reuse
-  tiled d v = reused_tiled (frame_args h q) q (frame-usable h q d) (allowed_only (reuse_allowed (frame_args h q) q) s p (ask_reuse q.present s p) v)
+  tiled d v = reused_tiled (frame_args h q) q (frame_usable h q d) (allowed_only (reuse_allowed (frame_args h q) q) s p (ask_reuse q.present s p) v)
 
-  reused-cols : in_frame_domain h q ≡ true → (read_reuse s p (frame_args h q) q).value ≡ true → read.hdr.tiling.cols ≡ q.t.cols
+  reused_cols : in_frame_domain h q ≡ true → (read_reuse s p (frame_args h q) q).value ≡ true → read.hdr.tiling.cols ≡ q.t.cols
   unfolding parse_tile_info_frmhdr reused_info
-  reused-cols d v = ap (λ (z : FrameRead). z.hdr.tiling.cols) (taken _ _ _ d ∙ through _ _ refl ∙ through _ _ refl ∙ taken _ _ _ v)
+  reused_cols d v = ap (λ (z : FrameRead). z.hdr.tiling.cols) (taken _ _ _ d ∙ through _ _ refl ∙ through _ _ refl ∙ taken _ _ _ v)
 
-  reused-rows : in_frame_domain h q ≡ true → (read_reuse s p (frame_args h q) q).value ≡ true → read.hdr.tiling.rows ≡ q.t.rows
+  reused_rows : in_frame_domain h q ≡ true → (read_reuse s p (frame_args h q) q).value ≡ true → read.hdr.tiling.rows ≡ q.t.rows
   unfolding parse_tile_info_frmhdr reused_info
-  reused-rows d v = ap (λ (z : FrameRead). z.hdr.tiling.rows) (taken _ _ _ d ∙ through _ _ refl ∙ through _ _ refl ∙ taken _ _ _ v)
+  reused_rows d v = ap (λ (z : FrameRead). z.hdr.tiling.rows) (taken _ _ _ d ∙ through _ _ refl ∙ through _ _ refl ∙ taken _ _ _ v)
 
   few : is_refusal read.answer ≡ false → (read.hdr.tiling.cols ≤ 64) × (read.hdr.tiling.rows ≤ 64)
   few e = by (in_frame_domain h q) (read_reuse s p (frame_args h q) q).value refl refl
     where
       by : (d v : Bool) → in_frame_domain h q ≡ d → (read_reuse s p (frame_args h q) q).value ≡ v → (read.hdr.tiling.cols ≤ 64) × (read.hdr.tiling.rows ≤ 64)
       by false v d w = contrary (outside d) e
-      by true false d w = let t = frame-accepted e w in (t.most_cols, t.most_rows)
+      by true false d w = let t = frame_accepted e w in (t.most_cols, t.most_rows)
       by true true d w =
           let t = tiled d w in
           let cols = usable_tiles_lem _ _ _ t.cols in
           let rows = usable_tiles_lem _ _ _ t.rows in
-          (omega (arith, reused-cols d w, cols.few), omega (arith, reused-rows d w, rows.few))
+          (omega (arith, reused_cols d w, cols.few), omega (arith, reused_rows d w, rows.few))
 
-  frame-not-6 : Not6 (frame_tiles read)
+  frame_not_6 : Not6 (frame_tiles read)
   unfolding parse_tile_info_frmhdr fresh_layout then
-  frame-not-6 =
+  frame_not_6 =
       picked (λ (z : FrameRead). Not6 (frame_tiles z)) (in_frame_domain h q) _ _
       (λ _. picked (λ (z : FrameRead). Not6 (frame_tiles z)) (read_reuse s p (frame_args h q) q).value _ _ (λ _. other 0 (lit< tt)) (λ _. tiles_not_6 s (read_reuse s p (frame_args h q) q).next h.tiling (frame_args h q)))
       (λ _. other 4 (lit< tt))
 
-  pub frame-on-wall : OnWall (frame_tiles read)
-  frame-on-wall = record { few_cols = λ e. (few e).0; few_rows = λ e. (few e).1; never_6 = frame-not-6 }
+  pub frame_on_wall : OnWall (frame_tiles read)
+  frame_on_wall = record { few_cols = λ e. (few e).0; few_rows = λ e. (few e).1; never_6 = frame_not_6 }

@@ -14,9 +14,9 @@ use Rattle.layout_writing.specs.Promises.{SomeBits}
 use Rattle.layout_writing.proofs.Reading.{domained, few, short, start, stands, reads_on, some_bits, own}
 
 module _ (a : TileArgs) (t : TileInfo) (b : SomeBits a t) where
-  pub row-known : row_of a t ≡ layout_bits a t
+  pub row_known : row_of a t ≡ layout_bits a t
   unfolding row_of
-  row-known = taken _ _ _ (both_hold (both_hold (domained a t b) (le-leb _ _ (few a t b).0)) (le-leb _ _ (few a t b).1))
+  row_known = taken _ _ _ (both_hold (both_hold (domained a t b) (le-leb _ _ (few a t b).0)) (le-leb _ _ (few a t b).1))
 
 -- two answers that imply each other are the same
 same_bool : (a b : Bool) → (a ≡ true → b ≡ true) → (b ≡ true → a ≡ true) → a ≡ b
@@ -30,4 +30,4 @@ asked a t =
     (λ h. own a t (some_bits a t _ start h))
     (λ h.
     let b = some_bits a t _ start h in
-    rw (row-known a t b) (reads_on a t b (bytes_of 177 (layout_bits a t)) (stands a t 177 (omega (arith, short a t b)))))
+    rw (row_known a t b) (reads_on a t b (bytes_of 177 (layout_bits a t)) (stands a t 177 (omega (arith, short a t b)))))

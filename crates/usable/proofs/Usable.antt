@@ -14,7 +14,7 @@ use Rattle.tile_layout.specs.Layout.{parse_tile_info}
 use Rattle.tile_layout.specs.Limits.{no_tile_info, in_domain}
 use Rattle.tile_layout.specs.declared.TileArgs.{TileArgs}
 use Rattle.tile_layout.specs.declared.TileInfo.{TileInfo}
-use Rattle.tile_layout.proofs.Demand3.{accepted-in, all-accepted, from_zero, low-logs}
+use Rattle.tile_layout.proofs.Demand3.{accepted_in, all_accepted, from_zero, low_logs}
 use Rattle.tile_layout.proofs.Domain.{domain, low_code}
 use Rattle.rectangles.specs.Rectangles.{rising}
 use Rattle.rectangles.proofs.Covering.{covering}
@@ -25,7 +25,7 @@ use Rattle.seq_record.specs.declared.SeqTiling.{SeqTiling}
 use Rattle.seq_hdr.specs.Header.{read_head, with_tiling, parse_seq_hdr}
 use Rattle.seq_hdr.specs.HeaderLayout.{args_before}
 use Rattle.seq_hdr.specs.Tiling.{tile_info_if, read_tiling}
-use Rattle.seq_hdr.proofs.Accepted.{tiling_of, accepted-header}
+use Rattle.seq_hdr.proofs.Accepted.{tiling_of, accepted_header}
 use Rattle.seq_hdr.proofs.Bounds.{head_in}
 use Rattle.frame_layout.specs.Frame.{starts_low, usable_tiles, is_off, usable, in_frame_domain}
 use Rattle.frame_layout.specs.Sequence.{seq_layout}
@@ -47,8 +47,8 @@ tiled t = usable_tiles t.cols t.log2_cols t.col_start_sb && usable_tiles t.rows 
 
 layout_tiled : (s : List ℕ) (p : Place) (old : TileInfo) (a : TileArgs) → is_refusal (parse_tile_info s p old a).answer ≡ false → tiled (parse_tile_info s p old a).info ≡ true
 layout_tiled s p old a e =
-    let d = described _ _ _ _ (covering s p a _ (accepted-in s p old a e) (all-accepted s p old a e) (from_zero s p old a e)).described in
-    let l = low-logs s p old a e in
+    let d = described _ _ _ _ (covering s p a _ (accepted_in s p old a e) (all_accepted s p old a e) (from_zero s p old a e)).described in
+    let l = low_logs s p old a e in
     rw (tiles_usable _ _ _ d.some_cols d.most_cols l.0 d.across, tiles_usable _ _ _ d.some_rows d.most_rows l.1 d.down) refl
 
 -- a record whose layout is read for arguments in the domain, with a tiling that is Off or has a usable layout
@@ -88,7 +88,7 @@ tiling_usable hdr s p = by (get_flag s p).value refl
 header_usable : (s : List ℕ) (p : Place) (strict : Bool) → IsAccepted s p strict → usable (seq_layout (parse_seq_hdr s p strict).hdr) ≡ true
 header_usable s p strict =
     let head = read_head s p in
-    accepted-header (λ hdr. usable (seq_layout hdr) ≡ true) s p strict
+    accepted_header (λ hdr. usable (seq_layout hdr) ≡ true) s p strict
     (λ d z grain. record_usable head.hdr (tiling_of head.hdr s head.next).fields grain (head_in s p d) (tiling_usable head.hdr s head.next z))
 
 pub accepted_usable : AcceptedUsable

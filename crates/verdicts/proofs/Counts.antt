@@ -11,17 +11,17 @@ use Rattle.verdicts.specs.Counts.{one_more}
 use Rattle.getbits.specs.Chain.{pick}
 
 module _ (counts : List ℕ) (i : ℕ) where
-  pub more-fits : get_or counts i 0 < 4294967295 → set counts i (get_or counts i 0 + 1) ≡ one_more counts i
+  pub more_fits : get_or counts i 0 < 4294967295 → set counts i (get_or counts i 0 + 1) ≡ one_more counts i
   unfolding one_more
-  more-fits h = rw (lt-ltb (get_or counts i 0) 4294967295 h)
+  more_fits h = rw (lt-ltb (get_or counts i 0) 4294967295 h)
 
-  pub more-full : 4294967295 ≤ get_or counts i 0 → counts ≡ one_more counts i
+  pub more_full : 4294967295 ≤ get_or counts i 0 → counts ≡ one_more counts i
   unfolding one_more
-  more-full h = rw (le-ltb (get_or counts i 0) 4294967295 h)
+  more_full h = rw (le-ltb (get_or counts i 0) 4294967295 h)
 
-  pub more-behind : length counts ≤ i → counts ≡ one_more counts i
+  pub more_behind : length counts ≤ i → counts ≡ one_more counts i
   unfolding one_more
-  more-behind h = go (ltb (get_or counts i 0) 4294967295)
+  more_behind h = go (ltb (get_or counts i 0) 4294967295)
     where
       go : (t : Bool) → counts ≡ pick t (set counts i (get_or counts i 0 + 1)) counts
       go true = sym (set_out counts i (get_or counts i 0 + 1) h)

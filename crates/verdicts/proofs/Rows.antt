@@ -134,10 +134,10 @@ module _ (xs : List ℤ) (n : ℕ) (ns : List ℕ) (m : ℕ) where
   unfolding agreeing
   enough h k = rw (le-leb n (length xs) h, le-leb m (length ns) k)
 
-  pub few-stored : n ≤ length xs → length ns < m → false ≡ agreeing xs n ns m
+  pub few_stored : n ≤ length xs → length ns < m → false ≡ agreeing xs n ns m
   unfolding agreeing
-  few-stored h k = rw (le-leb n (length xs) h, lt-leb m (length ns) k)
+  few_stored h k = rw (le-leb n (length xs) h, lt-leb m (length ns) k)
 
-  pub few-ours : length xs < n → false ≡ agreeing xs n ns m
+  pub few_ours : length xs < n → false ≡ agreeing xs n ns m
   unfolding agreeing
-  few-ours h = rw (lt-leb n (length xs) h)
+  few_ours h = rw (lt-leb n (length xs) h)

@@ -5,7 +5,7 @@ use Rattle.getbits.specs.Bits.{get_bit}
 use Rattle.getbits.specs.declared.Number.{Number}
 use Rattle.lent.specs.Lent.{place_of}
 use Rattle.capi_bits.specs.Numbers.{lent_number}
-use Rattle.capi_bits.proofs.Ahead.{bit-on}
+use Rattle.capi_bits.proofs.Ahead.{bit_on}
 use Rattle.capi_bits.proofs.mubanlig_get_bit.Statement.{statement}
 use Rattle.capi_bits.proofs.mubanlig_get_bit.Tie as tie
 
@@ -16,7 +16,7 @@ returns : tie.Need-returns
 returns c =
     let k = c.before in
     let a = k.before.before.before.before.args in
-    bit-on a.s.now a.position.now a.error.now (search rules) refl k.wrapping-add-usize.ensures
+    bit_on a.s.now a.position.now a.error.now (search rules) refl k.wrapping-add-usize.ensures
 
 returns-2 : tie.Need-returns-2
 unfolding get_bit

@@ -5,7 +5,7 @@ use Rattle.codes.proofs.Args.{in_range}
 use Rattle.getbits.specs.Bits.{get_bits}
 use Rattle.lent.specs.Lent.{place_of}
 use Rattle.capi_bits.specs.Numbers.{lent_number}
-use Rattle.capi_bits.proofs.Ahead.{bits-on}
+use Rattle.capi_bits.proofs.Ahead.{bits_on}
 use Rattle.capi_bits.proofs.mubanlig_get_bits.Statement.{statement}
 use Rattle.capi_bits.proofs.mubanlig_get_bits.Tie as tie
 
@@ -29,7 +29,7 @@ returns c =
     let start = t.before.before.before.before in
     let a = start.args in
     let same = to_z-of_z start.ranges.n in
-    bits-on a.s.now a.position.now a.error.now (nat_abs a.n) (omega (arith, (known t).1)) (omega (arith, (known t).1))
+    bits_on a.s.now a.position.now a.error.now (nat_abs a.n) (omega (arith, (known t).1)) (omega (arith, (known t).1))
     (rw (same, c.before.place_of.ensures) at c.look-ahead.ensures) (rw same at c.before.before.wrapping-add-usize.ensures)
     ∙ ap (λ (z : ℤ). lent_number (get_bits a.s.now (place_of a.position.now a.error.now) z) a.error.now) (known t).2
 

@@ -8,7 +8,7 @@ use Rattle.getbits.specs.declared.Number.{Number}
 use Rattle.getbits.specs.declared.Place.{Place}
 use Rattle.lent.specs.Lent.{place_of}
 use Rattle.capi_bits.specs.Numbers.{lent_number}
-use Rattle.capi_bits.proofs.Ahead.{uniform-short, uniform-long}
+use Rattle.capi_bits.proofs.Ahead.{uniform_short, uniform_long}
 use Rattle.capi_bits.proofs.mubanlig_get_uniform.Statement.{statement}
 use Rattle.capi_bits.proofs.mubanlig_get_uniform.Tie as tie
 
@@ -48,14 +48,14 @@ returns : tie.Need-returns
 returns c =
     let k = c.before.before in
     let a = (start k).args in
-    uniform-short a.s.now a.position.now a.error.now a.max (bounds k).0 (bounds k).1 (omega arith)
+    uniform_short a.s.now a.position.now a.error.now a.max (bounds k).0 (bounds k).1 (omega arith)
     k.look-ahead.result (looked k) (rw (forms k).uniform-forms.ensures.1 at c.before.if3.true) (rw (bits k) at c.wrapping-add-usize.ensures)
 
 returns-2 : tie.Need-returns-2
 returns-2 c =
     let k = c.before.before in
     let a = (start k).args in
-    rw (forms k).uniform-forms.ensures.1 (uniform-long a.s.now a.position.now a.error.now a.max (bounds k).0 (bounds k).1 (omega arith)
+    rw (forms k).uniform-forms.ensures.1 (uniform_long a.s.now a.position.now a.error.now a.max (bounds k).0 (bounds k).1 (omega arith)
     k.look-ahead.result (looked k) (omega (arith, (forms k).uniform-forms.ensures.1)) (rw (bits k) at c.wrapping-add-usize2.ensures))
 
 returns-3 : tie.Need-returns-3

@@ -16,7 +16,7 @@ use Rattle.frame_layout.specs.declared.SeqLayout.{SeqLayout}
 use Rattle.flat.specs.Layout.{Buffers, buffers, has_room}
 use Rattle.lent_tiles.specs.Calls.{is_known, frame_given, seq_given, lent_frames}
 use Rattle.lent.proofs.Calls.{row, triple, first_fails, second_fails}
-use Rattle.lent_tiles.proofs.Left.{frames-short, code-kept, frame-kept, frame-into-handed, demand3-left}
+use Rattle.lent_tiles.proofs.Left.{frames_short, code_kept, frame_kept, frame-into-handed, demand3_left}
 use Rattle.capi_frame.proofs.mubanlig_parse_tile_info_frmhdr.Statement.{statement}
 use Rattle.capi_frame.proofs.mubanlig_parse_tile_info_frmhdr.Tie as tie
 
@@ -54,7 +54,7 @@ returns c =
     let a = s.args in
     let lacks = sym i.before.has_room.ensures ∙ not-true i.before.has_room.result i.if1.true in
     let fails = first_fails _ (has_room (theirs s)) lacks in
-    (frames-short a.s.now a.position.now a.error.now c.settle-place.ensures _ a.sb128.now (own s) (theirs s) (known-type s) fails, (λ _. refl, (λ _. refl, (λ _. refl, (λ _. refl, (λ h _. contrary h fails, λ h. contrary refl (accepted_by_0 ShortBuffer h)))))))
+    (frames_short a.s.now a.position.now a.error.now c.settle-place.ensures _ a.sb128.now (own s) (theirs s) (known-type s) fails, (λ _. refl, (λ _. refl, (λ _. refl, (λ _. refl, (λ h _. contrary h fails, λ h. contrary refl (accepted_by_0 ShortBuffer h)))))))
 
 returns-2 : tie.Need-returns-2
 returns-2 c =
@@ -63,7 +63,7 @@ returns-2 c =
     let a = s.args in
     let lacks = sym i.before.has-room2.ensures ∙ not-true i.before.has-room2.result i.if2.true in
     let fails = second_fails (has_room (own s)) _ lacks in
-    (frames-short a.s.now a.position.now a.error.now c.settle-place2.ensures _ a.sb128.now (own s) (theirs s) (known-type s) fails, (λ _. refl, (λ _. refl, (λ _. refl, (λ _. refl, (λ h _. contrary h fails, λ h. contrary refl (accepted_by_0 ShortBuffer h)))))))
+    (frames_short a.s.now a.position.now a.error.now c.settle-place2.ensures _ a.sb128.now (own s) (theirs s) (known-type s) fails, (λ _. refl, (λ _. refl, (λ _. refl, (λ _. refl, (λ h _. contrary h fails, λ h. contrary refl (accepted_by_0 ShortBuffer h)))))))
 
 returns-3 : tie.Need-returns-3
 unfolding lent_frames
@@ -101,17 +101,17 @@ returns-4 c =
     let promised = rw (p.place_of.ensures, o.frame-type-of.ensures, n.present-of.ensures) at promised-sized in
     let z = parse_tile_info_frmhdr a.s.now (place s) h q in
     let back = frame-into-handed a.s.now (place s) h q b (theirs s) has into a.error.now c.number.ensures c.before.put-place.ensures in
-    let kept = frame-kept z a.error.now a.sb128.now b back in (
+    let kept = frame_kept z a.error.now a.sb128.now b back in (
       back ∙ sym (taken _ _ _ has ∙ taken _ _ _ known ∙ through _ _ refl),
       (
-        code-kept z a.error.now a.sb128.now b back,
+        code_kept z a.error.now a.sb128.now b back,
         (
           λ n. ap (λ (b : Buffers). b.bytes) (kept n),
           (
             λ n. ap (λ (b : Buffers). b.col_starts_lem) (kept n),
             (
               λ n. ap (λ (b : Buffers). b.row_starts_lem) (kept n),
-              (λ _ _ d f. demand3-left _ _ _ c.number.ensures (λ _. refl) (promised.fresh d f), λ n. promised.over.cleared (accepted_by_0 k.frame-layout-into.result.answer (sym c.number.ensures ∙ n))),
+              (λ _ _ d f. demand3_left _ _ _ c.number.ensures (λ _. refl) (promised.fresh d f), λ n. promised.over.cleared (accepted_by_0 k.frame-layout-into.result.answer (sym c.number.ensures ∙ n))),
             ),
           ),
         ),

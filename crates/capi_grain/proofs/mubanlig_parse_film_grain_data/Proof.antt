@@ -12,7 +12,7 @@ use Rattle.lent.specs.Lent.{place_of}
 use Rattle.seq_fields.specs.Fields.{layout_of}
 use Rattle.film_grain.proofs.Refused.{Outcome, grain_outcome}
 use Rattle.capi_grain.specs.Calls.{lent_film_grain}
-use Rattle.capi_grain.proofs.Left.{never, zeros-left, lists_left}
+use Rattle.capi_grain.proofs.Left.{never, zeros_left, lists_left}
 use Rattle.capi_grain.proofs.mubanlig_parse_film_grain_data.Statement.{statement}
 use Rattle.capi_grain.proofs.mubanlig_parse_film_grain_data.Tie as tie
 
@@ -61,7 +61,7 @@ returns-3 c =
         (
           λ e. absurd (never x n c.number.ensures outcome 5 (λ h. omega arith) (λ h. omega arith) e),
           (
-            λ e. zeros-left x n c.number.ensures outcome a.fgd.now _ room put.0 e,
+            λ e. zeros_left x n c.number.ensures outcome a.fgd.now _ room put.0 e,
             λ _. lists_left x _ (put.1 room) r.parse-film-grain-data.ensures.1,
           ),
         ),

@@ -8,7 +8,7 @@ use Rattle.lent.specs.Lent.{place_of}
 use Rattle.tile_layout.specs.Limits.{args_of}
 use Rattle.tile_layout.specs.declared.TileArgs.{TileArgs}
 use Rattle.flat.specs.Layout.{Buffers, buffers}
-use Rattle.lent_tiles.proofs.Left.{lent_kept, into-handed, demand3-left}
+use Rattle.lent_tiles.proofs.Left.{lent_kept, into_handed, demand3_left}
 use Rattle.capi_tiles.proofs.mubanlig_parse_tile_info.Statement.{statement}
 use Rattle.capi_tiles.proofs.mubanlig_parse_tile_info.Tie as tie
 
@@ -32,7 +32,7 @@ returns c =
     let b = given s in
     let into = rw (to_z-of_z f.sbmul, to_z-of_z f.w, to_z-of_z f.h, p.place_of.ensures) at k.parse-tile-info-into.ensures in
     let number = c.number.ensures in
-    let back = into-handed a.s.now a.position.now a.error.now (asked s) b into.0 number c.before.put-place.ensures in
+    let back = into_handed a.s.now a.position.now a.error.now (asked s) b into.0 number c.before.put-place.ensures in
     let kept = lent_kept _ a.s.now a.position.now a.error.now b back in (
       back,
       (
@@ -41,7 +41,7 @@ returns c =
           λ n. ap (λ (b : Buffers). b.col_starts_lem) (kept n),
           (
             λ n. ap (λ (b : Buffers). b.row_starts_lem) (kept n),
-            (λ has d. demand3-left _ _ _ number (λ _. refl) (into.1.1.0 has d), λ n. into.1.1.1.cleared (accepted_by_0 k.parse-tile-info-into.result.answer (sym number ∙ n))),
+            (λ has d. demand3_left _ _ _ number (λ _. refl) (into.1.1.0 has d), λ n. into.1.1.1.cleared (accepted_by_0 k.parse-tile-info-into.result.answer (sym number ∙ n))),
           ),
         ),
       ),

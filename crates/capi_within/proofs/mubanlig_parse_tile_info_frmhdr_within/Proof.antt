@@ -16,7 +16,7 @@ use Rattle.frame_layout.specs.declared.SeqLayout.{SeqLayout}
 use Rattle.flat.specs.Layout.{Buffers, buffers, has_room}
 use Rattle.lent_tiles.specs.Calls.{handed_frame, is_known, frame_given, seq_given, lent_frames, lent_frame}
 use Rattle.lent.proofs.Calls.{row, triple, first_fails, second_fails}
-use Rattle.lent_tiles.proofs.Left.{frames-short, frame-number, code-kept, frame-kept, cleared-left}
+use Rattle.lent_tiles.proofs.Left.{frames_short, frame_number, code_kept, frame_kept, cleared_left}
 use Rattle.tile_limit.specs.Promises.{FreshAccepted, LimitedFrame}
 use Rattle.tile_limit.specs.Within.{wall, parse_tile_info_frmhdr_within}
 use Rattle.tile_limit.specs.declared.TileLimit.{TileLimit}
@@ -99,7 +99,7 @@ returns c =
     let a = s.args in
     let lacks = sym i.before.has_room.ensures ∙ not-true i.before.has_room.result i.if1.true in
     let fails = first_fails _ (has_room (theirs s)) lacks in
-    let e = frames-short a.s.now a.position.now a.error.now c.settle-place.ensures _ a.sb128.now (own s) (theirs s) (known-type s) fails in
+    let e = frames_short a.s.now a.position.now a.error.now c.settle-place.ensures _ a.sb128.now (own s) (theirs s) (known-type s) fails in
     (e, (λ _. refl, (λ _. refl, (λ _. refl, (λ _. refl, (λ h _. contrary h fails, (λ h. contrary refl (accepted_by_0 ShortBuffer h), (λ w. e ∙ on_wall s w, λ h. contrary refl (accepted_by_0 ShortBuffer h)))))))))
 
 returns-2 : tie.Need-returns-2
@@ -109,7 +109,7 @@ returns-2 c =
     let a = s.args in
     let lacks = sym i.before.has-room2.ensures ∙ not-true i.before.has-room2.result i.if2.true in
     let fails = second_fails (has_room (own s)) _ lacks in
-    let e = frames-short a.s.now a.position.now a.error.now c.settle-place2.ensures _ a.sb128.now (own s) (theirs s) (known-type s) fails in
+    let e = frames_short a.s.now a.position.now a.error.now c.settle-place2.ensures _ a.sb128.now (own s) (theirs s) (known-type s) fails in
     (e, (λ _. refl, (λ _. refl, (λ _. refl, (λ _. refl, (λ h _. contrary h fails, (λ h. contrary refl (accepted_by_0 ShortBuffer h), (λ w. e ∙ on_wall s w, λ h. contrary refl (accepted_by_0 ShortBuffer h)))))))))
 
 returns-3 : tie.Need-returns-3
@@ -130,13 +130,13 @@ returns-4 c =
     let s = start k in
     let x = k.frame-layout-within.result in
     let back = d.hand-back-frame.ensures in
-    let number = frame-number x s.args.error.now s.args.sb128.now (own s) back.0 in
-    let kept = frame-kept x s.args.error.now s.args.sb128.now (own s) back.0 in
+    let number = frame_number x s.args.error.now s.args.sb128.now (own s) back.0 in
+    let kept = frame_kept x s.args.error.now s.args.sb128.now (own s) back.0 in
     let info = back.1 (both (has_room (own s)) (has_room (theirs s)) (room k)).0 in
     let e = back.0 ∙ sym (meaning k) in (
       e,
       (
-        code-kept x s.args.error.now s.args.sb128.now (own s) back.0,
+        code_kept x s.args.error.now s.args.sb128.now (own s) back.0,
         (
           λ n. ap (λ (b : Buffers). b.bytes) (kept n),
           (
@@ -145,7 +145,7 @@ returns-4 c =
               λ n. ap (λ (b : Buffers). b.row_starts_lem) (kept n),
               (
                 λ _ _. limited_left (frame_tiles x) _ _ number info (promised k).limited,
-                (λ n. let h = accepted_by_0 x.answer (sym number ∙ n) in subst (FreshAccepted s.args.s.now (place s) (header s) (sequence s)) (sym (info h)) ((promised k).accepted h), (λ w. e ∙ on_wall s w, cleared-left (frame_tiles x) _ _ number info (promised k).over)),
+                (λ n. let h = accepted_by_0 x.answer (sym number ∙ n) in subst (FreshAccepted s.args.s.now (place s) (header s) (sequence s)) (sym (info h)) ((promised k).accepted h), (λ w. e ∙ on_wall s w, cleared_left (frame_tiles x) _ _ number info (promised k).over)),
               ),
             ),
           ),

@@ -14,7 +14,7 @@ use Rattle.tile_layout.specs.Limits.{args_of}
 use Rattle.tile_layout.specs.declared.TileArgs.{TileArgs}
 use Rattle.flat.specs.Layout.{Buffers, buffers, has_room, layout_in}
 use Rattle.lent_tiles.specs.Calls.{handed_tiles, lent_tiles, lent_tile_info}
-use Rattle.lent_tiles.proofs.Left.{tiles-short, tiles-number, tiles-kept, cleared-left}
+use Rattle.lent_tiles.proofs.Left.{tiles_short, tiles_number, tiles_kept, cleared_left}
 use Rattle.tile_limit.specs.Promises.{LimitedTiles}
 use Rattle.tile_limit.specs.Within.{wall, parse_tile_info_within}
 use Rattle.tile_limit.specs.declared.TileLimit.{TileLimit}
@@ -75,7 +75,7 @@ returns c =
     let i = c.before.before.before in
     let s = i.before.before.before.before.before.before.before.before.before in
     let lacks = sym i.before.has_room.ensures ∙ not-true i.before.has_room.result i.if1.true in
-    let e = tiles-short s.args.s.now s.args.position.now s.args.error.now c.settle-place.ensures _ (given s) lacks in
+    let e = tiles_short s.args.s.now s.args.position.now s.args.error.now c.settle-place.ensures _ (given s) lacks in
     (e, (λ _. refl, (λ _. refl, (λ _. refl, (λ h. contrary h lacks, (λ h. contrary refl (accepted_by_0 ShortBuffer h), (λ w. e ∙ on_wall s w, λ h. contrary refl (accepted_by_0 ShortBuffer h))))))))
 
 returns-2 : tie.Need-returns-2
@@ -85,8 +85,8 @@ returns-2 c =
     let s = start k in
     let x = k.parse-tile-info-within.result in
     let back = d.hand-back-tiles.ensures in
-    let number = tiles-number x s.args.error.now (given s) back.0 in
-    let kept = tiles-kept x s.args.error.now (given s) back.0 in
+    let number = tiles_number x s.args.error.now (given s) back.0 in
+    let kept = tiles_kept x s.args.error.now (given s) back.0 in
     let e = back.0 ∙ sym (meaning k) in (
       e,
       (
@@ -97,7 +97,7 @@ returns-2 c =
             λ n. ap (λ (b : Buffers). b.row_starts_lem) (kept n),
             (
               λ _. limited_left x _ _ number (back.1 (has k)) (promised k).limited,
-              (λ n. let h = accepted_by_0 x.answer (sym number ∙ n) in subst (AcceptedLayout s.args.s.now (place s) (asked s)) (sym (back.1 (has k) h)) ((promised k).accepted h), (λ w. e ∙ on_wall s w, cleared-left x _ _ number (back.1 (has k)) (promised k).over)),
+              (λ n. let h = accepted_by_0 x.answer (sym number ∙ n) in subst (AcceptedLayout s.args.s.now (place s) (asked s)) (sym (back.1 (has k) h)) ((promised k).accepted h), (λ w. e ∙ on_wall s w, cleared_left x _ _ number (back.1 (has k)) (promised k).over)),
             ),
           ),
         ),

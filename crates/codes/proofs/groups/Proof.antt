@@ -18,13 +18,13 @@ use Rattle.codes.proofs.groups.Statement.{statement}
 use Rattle.codes.proofs.groups.Tie as tie
 
 module _ (t : ℕ) (s : List ℕ) (q : Place) (b : Number) (e : b ≡ get_bits s q (pos 8)) where
-  uleb-last : b.value < 128 → uleb_from (suc t) s q ≡ b
+  uleb_last : b.value < 128 → uleb_from (suc t) s q ≡ b
   unfolding uleb_from
-  uleb-last h = through _ _ (as_read s q 8 (omega arith) e) ∙ taken _ _ _ (lt-ltb b.value 128 h)
+  uleb_last h = through _ _ (as_read s q 8 (omega arith) e) ∙ taken _ _ _ (lt-ltb b.value 128 h)
 
-  uleb-more : 128 ≤ b.value → (let rest = uleb_from t s b.next in uleb_from (suc t) s q ≡ record { value = b.value - 128 + 128 * rest.value; next = rest.next })
+  uleb_more : 128 ≤ b.value → (let rest = uleb_from t s b.next in uleb_from (suc t) s q ≡ record { value = b.value - 128 + 128 * rest.value; next = rest.next })
   unfolding uleb_from
-  uleb-more h = through _ _ (as_read s q 8 (omega arith) e) ∙ left _ _ _ (le-ltb b.value 128 h) ∙ through _ _ refl
+  uleb_more h = through _ _ (as_read s q 8 (omega arith) e) ∙ left _ _ _ (le-ltb b.value 128 h) ∙ through _ _ refl
 
   byte_lt : b.value < 256
   byte_lt = rw (as_read s q 8 (omega arith) e) (read_lt s q 8)
@@ -97,7 +97,7 @@ returns c =
     let k = c.before in
     let l = (loop k).loop in
     let e : uleb_from l.left (s k) l.q ≡ byte k =
-    ap (λ (n : ℕ). uleb_from n (s k) l.q) (some k) ∙ uleb-last (l.left - 1) (s k) l.q (byte k) k.before.before.read-bits.ensures c.if1.true in (
+    ap (λ (n : ℕ). uleb_from n (s k) l.q) (some k) ∙ uleb_last (l.left - 1) (s k) l.q (byte k) k.before.before.read-bits.ensures c.if1.true in (
       ap (λ (x : ℕ). l.val + x) (mul_comm (byte k).value l.weight ∙ ap (λ (r : Number). l.weight * r.value) (sym e)) ∙ l.inv.2,
       ap (λ (r : Number). r.next) (sym e) ∙ l.inv.3,
     )
@@ -120,7 +120,7 @@ loop-again c =
     let l = (loop k).loop in
     let rest : Number = uleb_from (l.left - 1) (s k) (byte k).next in
     let e : uleb_from l.left (s k) l.q ≡ record { value = (byte k).value - 128 + 128 * rest.value; next = rest.next } =
-    ap (λ (n : ℕ). uleb_from n (s k) l.q) (some k) ∙ uleb-more (l.left - 1) (s k) l.q (byte k) k.before.before.read-bits.ensures c.if1.false in (
+    ap (λ (n : ℕ). uleb_from n (s k) l.q) (some k) ∙ uleb_more (l.left - 1) (s k) l.q (byte k) k.before.before.read-bits.ensures c.if1.false in (
       under k ((byte k).value - 128) (omega (arith, byte_small k)),
       heavier l.weight (l.left - 1) (weighs k),
       spread l.val ((byte k).value - 128) l.weight rest.value ∙ ap (λ (r : Number). l.val + l.weight * r.value) (sym e) ∙ l.inv.2,

@@ -43,8 +43,8 @@ module _ (c : tie.After-uniform-forms) where
 
   -- with l - 1 bits read
   module _ (r : Number) (e : r ≡ get_bits s p (pos (l - 1))) where
-    value-lt : (r.value < 2 ^ (l - 1)) × (2 ^ (l - 1) ≤ max)
-    value-lt = (omega (arith, read_lt s p (l - 1), ap (λ (x : Number). x.value) (as_read s p (l - 1) (omega (arith, forms.1)) e)), forms.2)
+    value_lt : (r.value < 2 ^ (l - 1)) × (2 ^ (l - 1) ≤ max)
+    value_lt = (omega (arith, read_lt s p (l - 1), ap (λ (x : Number). x.value) (as_read s p (l - 1) (omega (arith, forms.1)) e)), forms.2)
 
     behind : get_uniform s p max ≡ pick (ltb r.value m) r (then (get_bit s r.next) λ b. record { value = 2 * r.value - m + b.value; next = b.next })
     behind =
@@ -82,7 +82,7 @@ mul-t13 : tie.Need-overflow-mul-t13
 mul-t13 c =
     let k = c.before.before.before.before in
     let a = k.before in
-    let v = value-lt a k.read-bits2.result k.read-bits2.ensures in
+    let v = value_lt a k.read-bits2.result k.read-bits2.ensures in
     omega (arith, v.0, v.1, a.before)
 
 add-t15 : tie.Need-overflow-add-t15
@@ -90,7 +90,7 @@ add-t15 c =
     let k = c.before.before.before.before.before in
     let a = k.before in
     let b = c.before.before.get-bit in
-    let v = value-lt a k.read-bits2.result k.read-bits2.ensures in
+    let v = value_lt a k.read-bits2.result k.read-bits2.ensures in
     omega (arith, v.0, v.1, bit_lt (s a) k.read-bits2.result.next, ap (λ (x : Number). x.value) b.ensures, a.before)
 
 returns-4 : tie.Need-returns-4

@@ -42,7 +42,7 @@ loop-again c =
     let a = c.before.before.before.before.before.before.before.before.before.before.before.before.args in (
       search rules,
       rw (← each_more (λ k. above_text a.v.unit (column_of a.v k (take 4 (drop (4 * k) a.xs.now))) (get_or a.starts.now k 0)) l.loop.i)
-          (within (omega arith) (also l.loop.invariant.1 (rw (c.before.before.before.start-at.ensures, c.before.before.before.before.before.column.ensures.0, c.before.before.before.before.before.before.rect-at.ensures) at c.before.before.put-above.ensures))),
+          (within (omega arith) (also l.loop.invariant.1 (rw (c.before.before.before.start_at_lem.ensures, c.before.before.before.before.before.column.ensures.0, c.before.before.before.before.before.before.rect-at.ensures) at c.before.before.put-above.ensures))),
     )
 
 same_length : tie.Need-same-length invariant-loop decreases-loop

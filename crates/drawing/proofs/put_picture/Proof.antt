@@ -19,14 +19,14 @@ module _ (k : tie.After-u8-to-usize2) where
   some_cols : 1 ≤ k.before.u8-to-usize.result
   some_cols = rw k.before.u8-to-usize.ensures k.before.before.before.before.before.requires.2
 
-  cols-le : k.before.u8-to-usize.result ≤ 64
-  cols-le = rw k.before.u8-to-usize.ensures k.before.before.before.before.before.pre.3
+  cols_le : k.before.u8-to-usize.result ≤ 64
+  cols_le = rw k.before.u8-to-usize.ensures k.before.before.before.before.before.pre.3
 
   some_rows : 1 ≤ k.u8-to-usize2.result
   some_rows = rw k.u8-to-usize2.ensures k.before.before.before.before.before.pre.4
 
-  rows-le : k.u8-to-usize2.result ≤ 64
-  rows-le = rw k.u8-to-usize2.ensures k.before.before.before.before.before.pre.5
+  rows_le : k.u8-to-usize2.result ≤ 64
+  rows_le = rw k.u8-to-usize2.ensures k.before.before.before.before.before.pre.5
 
   -- there are numbers for all tiles, for those of the first row, and for the first of the last row
   room : 4 * (k.u8-to-usize2.result * k.before.u8-to-usize.result) ≤ length k.before.before.before.before.before.args.xs.now
@@ -36,10 +36,10 @@ module _ (k : tie.After-u8-to-usize2) where
   in_row = omega (arith, room, mul-le-mul_right {m = 1} {n = k.u8-to-usize2.result} k.before.u8-to-usize.result some_rows)
 
   before_last : (k.u8-to-usize2.result - 1) * k.before.u8-to-usize.result ≤ 4096
-  before_last = let l : k.u8-to-usize2.result - 1 ≤ 64 = omega (arith, rows-le) in mul-le-mul l cols-le
+  before_last = let l : k.u8-to-usize2.result - 1 ≤ 64 = omega (arith, rows_le) in mul-le-mul l cols_le
 
-  in-last : 4 * ((k.u8-to-usize2.result - 1) * k.before.u8-to-usize.result) + 4 ≤ length k.before.before.before.before.before.args.xs.now
-  in-last =
+  in_last : 4 * ((k.u8-to-usize2.result - 1) * k.before.u8-to-usize.result) + 4 ≤ length k.before.before.before.before.before.args.xs.now
+  in_last =
       let rows = k.u8-to-usize2.result in
       let l : rows - 1 + 1 ≤ rows = omega (arith, some_rows) in
       omega (arith, room, some_cols, mul-le-mul_right {m = rows - 1 + 1} {n = rows} k.before.u8-to-usize.result l, add-mul (rows - 1) 1 k.before.u8-to-usize.result)
@@ -48,7 +48,7 @@ sub-rect-at : tie.Need-overflow-sub-rect-at
 sub-rect-at c = omega (arith, some_cols c.before.before)
 
 mul-rect-at : tie.Need-overflow-mul-rect-at
-mul-rect-at c = omega (arith, cols-le c.before.before)
+mul-rect-at c = omega (arith, cols_le c.before.before)
 
 rect-at-requires : tie.Need-rect-at-requires
 rect-at-requires c κs = omega (arith, in_row c.before.before, some_cols c.before.before)
@@ -57,7 +57,7 @@ sub-column : tie.Need-overflow-sub-column
 sub-column c = omega (arith, some_cols c.before.before.before)
 
 column-requires : tie.Need-column-requires
-column-requires c κs = (c.before.before.before.before.before.before.before.before.requires.0, omega (arith, cols-le c.before.before.before, some_cols c.before.before.before))
+column-requires c κs = (c.before.before.before.before.before.before.before.before.requires.0, omega (arith, cols_le c.before.before.before, some_cols c.before.before.before))
 
 mul-behind : tie.Need-overflow-mul-behind
 mul-behind c = omega (arith, c.before.before.before.before.before.before.before.before.before.before.requires.0.unit)
@@ -75,13 +75,13 @@ mul-rect-at-3 : tie.Need-overflow-mul-rect-at-3
 mul-rect-at-3 c = omega (arith, before_last c.before.before.before.before.before.before)
 
 rect-at-requires-2 : tie.Need-rect-at-requires-2
-rect-at-requires-2 c κs = in-last c.before.before.before.before.before.before
+rect-at-requires-2 c κs = in_last c.before.before.before.before.before.before
 
 sub_row : tie.Need-overflow-sub-row
 sub_row c = omega (arith, some_rows c.before.before.before.before.before.before.before)
 
 row-requires : tie.Need-row-requires
-row-requires c κs = (c.before.before.before.before.before.before.before.before.before.before.before.before.requires.0, omega (arith, rows-le c.before.before.before.before.before.before.before, some_rows c.before.before.before.before.before.before.before))
+row-requires c κs = (c.before.before.before.before.before.before.before.before.before.before.before.before.requires.0, omega (arith, rows_le c.before.before.before.before.before.before.before, some_rows c.before.before.before.before.before.before.before))
 
 mul-behind-2 : tie.Need-overflow-mul-behind-2
 mul-behind-2 c = omega (arith, c.before.before.before.before.before.before.before.before.before.before.before.before.before.before.requires.0.unit)
@@ -96,13 +96,13 @@ put-grid-requires : tie.Need-put-grid-requires
 put-grid-requires c κs = (c.before.before.before.before.before.before.before.before.before.before.before.before.before.before.before.before.before.before.before.before.before.before.before.before.requires.0, c.before.before.before.before.before.before.before.before.before.before.before.before.before.before.before.before.before.before.before.before.before.before.before.before.requires.1)
 
 put-layout-requires : tie.Need-put-layout-requires
-put-layout-requires c κs = let k = c.before.before.before.before.before.before.before.before.before.before.before.before.before.before.before.before.before.before.before.before.before.before.before in (c.before.before.before.before.before.before.before.before.before.before.before.before.before.before.before.before.before.before.before.before.before.before.before.before.before.before.before.before.requires.0, cols-le k, rows-le k, room k)
+put-layout-requires c κs = let k = c.before.before.before.before.before.before.before.before.before.before.before.before.before.before.before.before.before.before.before.before.before.before.before in (c.before.before.before.before.before.before.before.before.before.before.before.before.before.before.before.before.before.before.before.before.before.before.before.before.before.before.before.before.requires.0, cols_le k, rows_le k, room k)
 
 put-columns-requires : tie.Need-put-columns-requires
-put-columns-requires c κs = let k = c.before.before.before.before.before.before.before.before.before.before.before.before.before.before.before.before.before.before.before.before.before.before.before.before.before.before.before.before in (c.before.before.before.before.before.before.before.before.before.before.before.before.before.before.before.before.before.before.before.before.before.before.before.before.before.before.before.before.before.before.before.before.before.requires.0, cols-le k, in_row k)
+put-columns-requires c κs = let k = c.before.before.before.before.before.before.before.before.before.before.before.before.before.before.before.before.before.before.before.before.before.before.before.before.before.before.before.before in (c.before.before.before.before.before.before.before.before.before.before.before.before.before.before.before.before.before.before.before.before.before.before.before.before.before.before.before.before.before.before.before.before.before.requires.0, cols_le k, in_row k)
 
 put-rows-requires : tie.Need-put-rows-requires
-put-rows-requires c κs = let k = c.before.before.before.before.before.before.before.before.before.before.before.before.before.before.before.before.before.before.before.before.before.before.before.before.before.before.before.before.before.before.before.before.before in (c.before.before.before.before.before.before.before.before.before.before.before.before.before.before.before.before.before.before.before.before.before.before.before.before.before.before.before.before.before.before.before.before.before.before.before.before.before.before.requires.0, cols-le k, rows-le k, some_cols k, room k)
+put-rows-requires c κs = let k = c.before.before.before.before.before.before.before.before.before.before.before.before.before.before.before.before.before.before.before.before.before.before.before.before.before.before.before.before.before.before.before.before.before in (c.before.before.before.before.before.before.before.before.before.before.before.before.before.before.before.before.before.before.before.before.before.before.before.before.before.before.before.before.before.before.before.before.before.before.before.before.before.before.requires.0, cols_le k, rows_le k, some_cols k, room k)
 
 returns : tie.Need-returns
 unfolding picture_text word

@@ -55,7 +55,7 @@ loop-again c =
     let a = c.before.before.before.before.before.before.before.before.before.before.before.before.args in (
       search rules,
       rw (← each_more (λ k. left_text a.v.unit (row_of a.v k (take 4 (drop (4 * (k * a.cols)) a.xs.now))) (get_or a.starts.now k 0)) l.loop.j)
-          (within (omega arith) (also l.loop.invariant.1 (rw (c.before.before.before.start-at.ensures, c.before.before.before.before.before.row.ensures.0, c.before.before.before.before.before.before.rect-at.ensures) at c.before.before.put-left.ensures))),
+          (within (omega arith) (also l.loop.invariant.1 (rw (c.before.before.before.start_at_lem.ensures, c.before.before.before.before.before.row.ensures.0, c.before.before.before.before.before.before.rect-at.ensures) at c.before.before.put-left.ensures))),
     )
 
 same_length : tie.Need-same-length invariant-loop decreases-loop

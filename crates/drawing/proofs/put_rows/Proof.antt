@@ -21,7 +21,7 @@ returns c =
     let a = c.before.before.before.before.before.before.before.before.before.before.before.before.args in
     let first = each_same (λ j. left_text a.v.unit (row_of a.v j (take 4 (drop (4 * (j * a.cols + 0)) a.xs.now))) (get_or a.starts.now j 0)) _ a.rows
     (λ j _. let e : j * a.cols + 0 ≡ j * a.cols = omega arith in ap (λ (k : ℕ). left_text a.v.unit (row_of a.v j (take 4 (drop (4 * k) a.xs.now))) (get_or a.starts.now j 0)) e) in
-    rw first (within (omega arith) (also c.before.before.before.before.before.before.before.before.put-row-starts.ensures (rw c.before.before.before.start-at.ensures at c.before.before.put-left.ensures)))
+    rw first (within (omega arith) (also c.before.before.before.before.before.before.before.before.put-row-starts.ensures (rw c.before.before.before.start_at_lem.ensures at c.before.before.put-left.ensures)))
 
 pub put-rows-spec : {M : Type 1} → statement M
 put-rows-spec = tie.close (tie.spec (λ c κs. search rules) (λ c κs. search rules) put-left-requires (λ c. search rules) returns)

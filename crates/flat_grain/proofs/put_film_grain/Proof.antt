@@ -7,7 +7,7 @@ use lib.ListN.{length, drop}
 use Rattle.getbits.proofs.Chain.{taken}
 use Rattle.flat_grain.specs.Grain.{flat_film_grain}
 use Rattle.flat.proofs.Rows.{fronted, kept}
-use Rattle.flat_grain.proofs.Parts.{has-lists}
+use Rattle.flat_grain.proofs.Parts.{has_lists}
 use Rattle.flat_grain.proofs.put_film_grain.Statement.{statement}
 use Rattle.flat_grain.proofs.put_film_grain.Tie as tie
 
@@ -20,7 +20,7 @@ returns-2 c =
     let room = k.before.before.if1.false in
     let a = k.before.before.before.args in
     let over = fronted k.put-fields.ensures.0 room in
-    (over, λ h. rw (over ∙ taken _ _ _ (le-leb 186 (length a.out.now) room)) (has-lists a.fgd (drop 186 a.out.now) k.put-fields.ensures.1))
+    (over, λ h. rw (over ∙ taken _ _ _ (le-leb 186 (length a.out.now) room)) (has_lists a.fgd (drop 186 a.out.now) k.put-fields.ensures.1))
 
 pub put-film-grain-spec : {M : Type 1} → statement M
 put-film-grain-spec = tie.close (tie.spec returns (λ c κs. search rules) (λ c. search rules) returns-2)

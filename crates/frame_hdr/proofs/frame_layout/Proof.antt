@@ -4,9 +4,9 @@ use borrow.Author.Rules.{rules}
 use Rattle.getbits.proofs.Chain.{both_hold}
 use Rattle.getbits.proofs.Widths.{back}
 use Rattle.flat.specs.Layout.{has_room}
-use Rattle.flat.proofs.Room.{put-room}
+use Rattle.flat.proofs.Room.{put_room}
 use Rattle.tile_layout.proofs.Lengths.{cols_length, rows_length}
-use Rattle.frame_hdr.proofs.Into.{whole-frame}
+use Rattle.frame_hdr.proofs.Into.{whole_frame}
 use Rattle.frame_hdr.proofs.frame_layout.Statement.{statement}
 use Rattle.frame_hdr.proofs.frame_layout.Tie as tie
 
@@ -26,15 +26,15 @@ returns c =
     let own = u.put-tile-info.ensures in
     let theirs = v.put-tile-info2.ensures in
     let has = both_hold
-    (ap has_room own.0 ∙ put-room h.tiling _ (cols_length h.tiling _ good) (rows_length h.tiling _ good) refl)
-    (ap has_room theirs.0 ∙ put-room q.t _ (cols_length q.t _ seq-good) (rows_length q.t _ seq-good) refl) in
-    whole-frame k.s.now k.p h q _ _ (own.1 refl) (theirs.1 refl) (r.frame-layout-into.ensures.1.0 has)
+    (ap has_room own.0 ∙ put_room h.tiling _ (cols_length h.tiling _ good) (rows_length h.tiling _ good) refl)
+    (ap has_room theirs.0 ∙ put_room q.t _ (cols_length q.t _ seq-good) (rows_length q.t _ seq-good) refl) in
+    whole_frame k.s.now k.p h q _ _ (own.1 refl) (theirs.1 refl) (r.frame-layout-into.ensures.1.0 has)
     (back h.width y.struct_told.given.1.0.1)
     (back h.height x.before.before.struct-told2.given.1.1.0.1)
     (back q.max_width x.before.struct-told3.given.1.0.1)
     (back q.max_height x.struct-told4.given.1.1.0.1)
     c.before.tile-info-of.ensures
-    c.with-layout.ensures
+    c.with_layout_lem.ensures
 
 pub frame-layout-spec : {M : Type 1} → statement M
 frame-layout-spec =

@@ -19,8 +19,8 @@ use Rattle.frame_hdr.specs.Into.{frame_in, seq_in, frame_into, parse_tile_info_f
 use Rattle.frame_layout.specs.declared.FrameHeader.{FrameHeader}
 use Rattle.frame_layout.specs.declared.FrameRead.{FrameRead}
 use Rattle.frame_layout.specs.declared.SeqLayout.{SeqLayout}
-use Rattle.frame_hdr.proofs.Into.{Held, held, allowed_in, fresh-into, what-is-left}
-use Rattle.frame_layout.proofs.Usable.{Tiled, known, usable_tiles_lem, frame-usable, frame-in-domain, allowed_only, reused_tiled}
+use Rattle.frame_hdr.proofs.Into.{Held, held, allowed_in, fresh_into, what-is-left}
+use Rattle.frame_layout.proofs.Usable.{Tiled, known, usable_tiles_lem, frame_usable, frame_in_domain, allowed_only, reused_tiled}
 use Rattle.frame_hdr.proofs.frame_layout_into.Statement.{statement}
 use Rattle.frame_hdr.proofs.frame_layout_into.Tie as tie
 
@@ -78,7 +78,7 @@ inside : (k : tie.Else3) → in_frame_domain (header (begin k)) (sequence (begin
 inside k = sym (asked k.before) ∙ not-false _ k.if3.false
 
 fit : (k : tie.Else3) → usable (sequence (begin k)) ≡ true
-fit k = frame-usable (header (begin k)) (sequence (begin k)) (inside k)
+fit k = frame_usable (header (begin k)) (sequence (begin k)) (inside k)
 
 -- what the layout is read for
 made : (c : tie.After-frame-args) → c.frame-args.result ≡ frame_args (header (begin c.before)) (sequence (begin c.before))
@@ -87,7 +87,7 @@ made c =
     rw (to_z-of_z f.width, to_z-of_z f.height) at c.frame-args.ensures
 
 in_domain_lem : (c : tie.After-frame-args) → in_domain c.frame-args.result ≡ true
-in_domain_lem c = ap in_domain (made c) ∙ frame-in-domain (header (begin c.before)) (sequence (begin c.before)) (inside c.before)
+in_domain_lem c = ap in_domain (made c) ∙ frame_in_domain (header (begin c.before)) (sequence (begin c.before)) (inside c.before)
 
 -- a layout whose counts and starts are small, in its buffers
 in_buffers : (e : tie.Else2) → Tiled (sequence (start e)).t → Tiled (Held (theirs (start e)))
@@ -203,7 +203,7 @@ returns-5 c =
     let e = checked k.before in
     let s = start e in
     let read = taken _ _ _ (inside k) ∙ through _ _ (made a) ∙ through _ _ (answered f) ∙ left _ _ _ i.if4.false in
-    let put = fresh-into (bytes s) f.read-reuse.result.next (header s) a.frame-args.result (own s) refl _ _ l.fresh-layout.ensures ∙ ap (λ (z : FrameRead). frame_into z (own s)) (sym read) in
+    let put = fresh_into (bytes s) f.read-reuse.result.next (header s) a.frame-args.result (own s) refl _ _ l.fresh-layout.ensures ∙ ap (λ (z : FrameRead). frame_into z (own s)) (sym read) in
     what-is-left (bytes s) s.args.p (own s) (theirs s) (header s) (sequence s) refl
     (put ∙ sym (taken _ _ _ (both_hold (own_room e) (their_room e)))) c.before.before.before.cols2.given c.before.rows2.given
 

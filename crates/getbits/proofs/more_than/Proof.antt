@@ -10,14 +10,14 @@ use lib.Dec.{ltb}
 use lib.ListN.{length}
 use Rattle.getbits.specs.Bits.{bit_count, position}
 use Rattle.getbits.specs.declared.Place.{Place}
-use Rattle.getbits.proofs.Places.{lt_or_le, pos-in, pos-past, pos-over}
+use Rattle.getbits.proofs.Places.{lt_or_le, pos_in, pos_past, pos_over}
 use Rattle.getbits.proofs.more_than.Statement.{statement}
 use Rattle.getbits.proofs.more_than.Tie as tie
 
 -- the test as the program has it
 whole_bytes : (s : List ℕ) (p : Place) (n : ℕ) → p.byte < length s → p.used < 8 → ltb ((p.used + n) / 8) (length s - p.byte) ≡ ltb (position s p + n) (bit_count s)
 whole_bytes s p n h k =
-    let at = pos-in s p h k in
+    let at = pos_in s p h k in
     ⊎_elim
     (λ l. rw (lt-ltb ((p.used + n) / 8) (length s - p.byte) l, lt-ltb (position s p + n) (bit_count s) (omega (arith, at))) refl)
     (λ l. rw (le-ltb ((p.used + n) / 8) (length s - p.byte) l, le-ltb (position s p + n) (bit_count s) (omega (arith, at))) refl)
@@ -26,12 +26,12 @@ whole_bytes s p n h k =
 returns : tie.Need-returns
 returns c =
     let a = c.before.before.args in
-    sym (le-ltb (position a.s.now a.p + a.n) (bit_count a.s.now) (omega (arith, pos-over a.s.now a.p (search rules))))
+    sym (le-ltb (position a.s.now a.p + a.n) (bit_count a.s.now) (omega (arith, pos_over a.s.now a.p (search rules))))
 
 returns-2 : tie.Need-returns-2
 returns-2 c =
     let a = c.before.before.before.before.args in
-    sym (le-ltb (position a.s.now a.p + a.n) (bit_count a.s.now) (omega (arith, pos-past a.s.now a.p (search rules))))
+    sym (le-ltb (position a.s.now a.p + a.n) (bit_count a.s.now) (omega (arith, pos_past a.s.now a.p (search rules))))
 
 returns-3 : tie.Need-returns-3
 returns-3 c =

@@ -4,7 +4,7 @@ use native.Mathlib.Omega.{arith}
 use borrow.Author.Rules.{rules}
 use Rattle.getbits.specs.declared.Place.{Place}
 use Rattle.getbits.proofs.Callers.{width_in, width_over}
-use Rattle.getbits.proofs.Places.{pos-le, read_short, read_at}
+use Rattle.getbits.proofs.Places.{pos_le, read_short, read_at}
 use Rattle.getbits.proofs.read_wide.Statement.{statement}
 use Rattle.getbits.proofs.read_wide.Tie as tie
 
@@ -19,7 +19,7 @@ returns-2 c =
     let a = k.before.before.before.args in
     let at = k.settle.ensures.0 in
     c.exhausted.ensures
-    ∙ read_short a.s.now a.p a.n (omega (arith, ap (λ (x : Place). x.byte) at, ap (λ (x : Place). x.used) at, pos-le a.s.now a.p))
+    ∙ read_short a.s.now a.p a.n (omega (arith, ap (λ (x : Place). x.byte) at, ap (λ (x : Place). x.used) at, pos_le a.s.now a.p))
     ∙ width_in a.s.now a.p a.n (search rules)
 
 returns-3 : tie.Need-returns-3

@@ -9,7 +9,7 @@ use Rattle.getbits.specs.Bits.{bit_count, position}
 use Rattle.getbits.specs.declared.Number.{Number}
 use Rattle.getbits.specs.declared.Place.{Place}
 use Rattle.getbits.proofs.Callers.{read_there}
-use Rattle.getbits.proofs.Places.{pos-in, pos-before, place_at_lem, place_end, read_short}
+use Rattle.getbits.proofs.Places.{pos_in, pos_before, place_at_lem, place_end, read_short}
 use Rattle.getbits.proofs.skip.Statement.{statement}
 use Rattle.getbits.proofs.skip.Tie as tie
 
@@ -18,10 +18,10 @@ more : (c : tie.Then1) → let a = c.before.before.before.args in position a.s.n
 more c = let a = c.before.before.before.args in ltb-true (position a.s.now a.p + a.n) (bit_count a.s.now) (sym c.before.more-than.ensures ∙ c.if1.true)
 
 within : (c : tie.Then1) → let a = c.before.before.before.args in (a.p.byte < length a.s.now) × (a.p.used < 8)
-within c = let a = c.before.before.before.args in pos-before a.s.now a.p (omega (arith, more c))
+within c = let a = c.before.before.before.args in pos_before a.s.now a.p (omega (arith, more c))
 
 at : (c : tie.Then1) → let a = c.before.before.before.args in position a.s.now a.p ≡ 8 * a.p.byte + a.p.used
-at c = let a = c.before.before.before.args in pos-in a.s.now a.p (within c).0 (within c).1
+at c = let a = c.before.before.before.args in pos_in a.s.now a.p (within c).0 (within c).1
 
 add-t9 : tie.Need-overflow-add-t9
 add-t9 c =

@@ -6,7 +6,7 @@ use native.Mathlib.Omega.{arith}
 use borrow.Author.Rules.{rules}
 use Rattle.codes.specs.Codes.{bit_length}
 use Rattle.codes.proofs.Callers.{length_is, pow_lt_only}
-use Rattle.layout_bits.proofs.Numbers.{length_bits, code_few, code-short, code-later}
+use Rattle.layout_bits.proofs.Numbers.{length_bits, code_few, code_short, code_later}
 use Rattle.layout_row.proofs.Append.{nothing}
 use Rattle.layout_row.proofs.put_uniform.Statement.{statement}
 use Rattle.layout_row.proofs.put_uniform.Tie as tie
@@ -52,7 +52,7 @@ returns-2 c =
     let e = t.before.before.before in
     let a = e.before.args in
     let r = c.put-bits.ensures in (
-      rw (code-short a.max a.v e.if1.false (rw k.whole at t.if2.true)) (rw k.is at r),
+      rw (code_short a.max a.v e.if1.false (rw k.whole at t.if2.true)) (rw k.is at r),
       omega (arith, r.ends, length_bits (t.before.before.bit_length.result - 1) a.v, k.most),
     )
 
@@ -73,7 +73,7 @@ returns-3 c =
     let e = t.before.before.before in
     let a = e.before.args in
     let r = c.put-bits2.ensures in (
-      rw (code-later a.max a.v e.if1.false (rw k.whole at t.if2.false)) (rw (k.is, k.whole) at r),
+      rw (code_later a.max a.v e.if1.false (rw k.whole at t.if2.false)) (rw (k.is, k.whole) at r),
       omega (arith, r.ends, length_bits t.before.before.bit_length.result (a.v + (t.before.power.result - a.max)), k.most),
     )
 

@@ -13,7 +13,7 @@ use Rattle.tile_layout.specs.declared.TileRead.{TileRead}
 use Rattle.frame_layout.specs.declared.FrameRead.{FrameRead}
 use Rattle.lent_tiles.specs.Calls.{handed_tiles, handed_frame}
 use Rattle.lent.proofs.Calls.{triple}
-use Rattle.lent_tiles.proofs.Left.{tiles-number}
+use Rattle.lent_tiles.proofs.Left.{tiles_number}
 use Rattle.lent_tiles.proofs.hand_back_frame.Statement.{statement}
 use Rattle.lent_tiles.proofs.hand_back_frame.Tie as tie
 
@@ -30,12 +30,12 @@ module _ (r : FrameRead) (error code : ℕ) (b : Buffers) (z : TileRead) (same :
 
   stored : n ≡ 0 → ((n ∷ x ∷ y ∷ []), r.hdr.sb128, b') ≡ handed_frame r error code b
   stored h =
-      let fine = accepted_by_0 r.answer (sym (tiles-number (frame_tiles r) error b handed) ∙ h) in
+      let fine = accepted_by_0 r.answer (sym (tiles_number (frame_tiles r) error b handed) ∙ h) in
       triple (ap (λ (w : List ℕ × Buffers). w.0) handed) (sym (left _ _ _ fine)) (ap (λ (w : List ℕ × Buffers). w.1) handed)
 
   kept : (n ≡ 0 → ⊥) → ((n ∷ x ∷ y ∷ []), code, b') ≡ handed_frame r error code b
   kept h =
-      let refused = refused_unless_0 r.answer (λ k. h (tiles-number (frame_tiles r) error b handed ∙ k)) in
+      let refused = refused_unless_0 r.answer (λ k. h (tiles_number (frame_tiles r) error b handed ∙ k)) in
       triple (ap (λ (w : List ℕ × Buffers). w.0) handed) (sym (taken _ _ _ refused)) (ap (λ (w : List ℕ × Buffers). w.1) handed)
 
   written : (has_room b ≡ true → is_refusal z.answer ≡ false → layout_in b' ≡ z.info) → has_room b ≡ true → is_refusal r.answer ≡ false → layout_in b' ≡ r.hdr.tiling

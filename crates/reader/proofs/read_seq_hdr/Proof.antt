@@ -20,7 +20,7 @@ use Rattle.reader.specs.contracts.read_seq_hdr as read-seq-hdr
 use Rattle.reader.specs.contracts.read_seq_hdr.Key.{name as #read-seq-hdr}
 use Rattle.reader.proofs.read_seq_hdr.Statement as stated
 use Rattle.reader.proofs.read_seq_hdr.Code as code
-use Rattle.reader.proofs.Claim.{Answer, Fact, equals, first, proved-two}
+use Rattle.reader.proofs.Claim.{Answer, Fact, equals, first, proved_two}
 use Rattle.reader.proofs.FromBytes.{φ, walk}
 use Rattle.reader.proofs.Param.{Param, rows, bytes, boolean}
 use Rattle.reader.proofs.Types.{reader, seq_read, seq_hdr_read, seq_hdr_erased}
@@ -46,7 +46,7 @@ law κs xs r e = subst (ψ κs xs) (sym e) (header_layout xs.0.now start xs.1.0)
 pub read-seq-hdr-spec : {M : Type 1} → stated.statement M
 unfolding code.routine
 read-seq-hdr-spec 𝓤 𝓛 𝓜 𝓡 =
-    proved-two 𝓛 𝓜 𝓡 code.env #read-seq-hdr code.function (code.unfolded 𝓤 𝓛.H 𝓜 𝓡) Ps seq_read (φ boolean seq_hdr_read seq_read (Q'.mir erased) f g) ψ law
+    proved_two 𝓛 𝓜 𝓡 code.env #read-seq-hdr code.function (code.unfolded 𝓤 𝓛.H 𝓜 𝓡) Ps seq_read (φ boolean seq_hdr_read seq_read (Q'.mir erased) f g) ψ law
     (λ κs xs. (read-seq-hdr.clauses 𝓛 𝓜.mem 𝓡.run κs xs).ensures tt) (λ κs xs r e. refl)
     (λ 𝓣 cite.
     walk boolean seq_hdr_read seq_read (Q'.mir erased) f g 𝓛 (seq_hdr_erased 𝓛) 𝓣 new-def.name f-def.name g-def.name

@@ -15,7 +15,7 @@ mul-samples c =
 
 -- the start in samples
 samples : (k : tie.After-u16-to-u32) → let a = k.before.before.before.args in k.u16-to-u32.result * a.side ≡ get_or a.starts.now a.i 0 * a.side
-samples k = ap (λ (x : ℕ). x * k.before.before.before.args.side) (k.u16-to-u32.ensures.0 ∙ k.before.start-at.ensures)
+samples k = ap (λ (x : ℕ). x * k.before.before.before.args.side) (k.u16-to-u32.ensures.0 ∙ k.before.start_at_lem.ensures)
 
 returns : tie.Need-returns
 returns c = omega (arith, samples c.before)

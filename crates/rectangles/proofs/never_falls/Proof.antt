@@ -17,7 +17,7 @@ decreases-loop starts n good₀ i₀ good i = n - i
 
 loop-holds : tie.Need-loop-init invariant-loop decreases-loop
 unfolding rising
-loop-holds c = (search rules, ap (λ (x : ℕ). leb x 1024) c.start-at.ensures)
+loop-holds c = (search rules, ap (λ (x : ℕ). leb x 1024) c.start_at_lem.ensures)
 
 loop-again : tie.Need-loop-preserved invariant-loop decreases-loop
 loop-again c =

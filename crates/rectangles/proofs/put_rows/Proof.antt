@@ -9,7 +9,7 @@ use lib.Seq.{sets, sets-eq, length-sets}
 use lib.ListN.{length, drop}
 use Rattle.tile_layout.proofs.Lengths.{cols_length}
 use Rattle.rectangles.proofs.Rising.{Described, described, steps}
-use Rattle.rectangles.proofs.Each.{each-length, store_more}
+use Rattle.rectangles.proofs.Each.{each_length, store_more}
 use Rattle.rectangles.specs.Rectangles.{rectangle_numbers, edge, reach, each, rectangles}
 use Rattle.rectangles.proofs.put_rows.Statement.{statement}
 use Rattle.rectangles.proofs.put_rows.Tie as tie
@@ -40,7 +40,7 @@ abbrev tiles : At → ℕ → List ℕ
 tiles l = let a = (start l).args in across a.t.col_start_sb a.t.row_start_sb l.before.side-of.result a.w a.h a.t.cols
 
 tiles_long : (l : At) (row : ℕ) → length (tiles l row) ≡ 4 * (start l).args.t.cols
-tiles_long l row = let a = (start l).args in each-length _ 4 (λ _. refl) a.t.cols
+tiles_long l row = let a = (start l).args in each_length _ 4 (λ _. refl) a.t.cols
 
 -- the buffer keeps its length, and has room for a row more
 kept : (l : At) → length l.loop.out ≡ length (start l).args.out.now
@@ -109,7 +109,7 @@ returns c =
     let a = (start l).args in
     let e : l.loop.row ≡ a.t.rows = omega arith in
     let all = each a.t.rows (tiles l) in
-    let long : length all ≡ rectangle_numbers a.t = each-length (tiles l) (4 * a.t.cols) (tiles_long l) a.t.rows ∙ mul_assoc 4 a.t.cols a.t.rows in
+    let long : length all ≡ rectangle_numbers a.t = each_length (tiles l) (4 * a.t.cols) (tiles_long l) a.t.rows ∙ mul_assoc 4 a.t.cols a.t.rows in
     l.loop.invariant.1
     ∙ ap (λ (n : ℕ). sets a.out.now 0 (each n (tiles l))) e
     ∙ sets-eq all a.out.now 0 (omega (arith, long, (start l).requires.1))

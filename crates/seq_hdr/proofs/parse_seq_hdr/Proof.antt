@@ -12,7 +12,7 @@ use Rattle.seq_hdr.specs.HeaderLayout.{HeaderLayout}
 use Rattle.seq_hdr.specs.Tiling.{read_tiling}
 use Rattle.seq_hdr.specs.declared.SeqRead.{SeqRead}
 use Rattle.seq_hdr.proofs.HeaderLayout.{header_layout}
-use Rattle.seq_hdr.proofs.Into.{head-ends, rest_of, head-goes-on}
+use Rattle.seq_hdr.proofs.Into.{head_ends, rest_of, head_goes_on}
 use Rattle.seq_hdr.proofs.parse_seq_hdr.Statement.{statement}
 use Rattle.seq_hdr.proofs.parse_seq_hdr.Tie as tie
 
@@ -30,13 +30,13 @@ promised h e =
 to_rest : (n : tie.Else1) → let a = (start n.before).args in parse_seq_hdr a.s.now a.p a.strict ≡ rest_of a.strict a.s.now n.before.before.before.read_head.result
 to_rest n =
     let a = (start n.before).args in
-    head-goes-on a.s.now a.p a.strict n.before.before.before.read_head.ensures.0 (sym n.before.is-refusal.ensures ∙ n.if1.false)
+    head_goes_on a.s.now a.p a.strict n.before.before.before.read_head.ensures.0 (sym n.before.is-refusal.ensures ∙ n.if1.false)
 
 returns : tie.Need-returns
 returns c =
     let h = c.before in
     let a = (start h).args in
-    promised h (head-ends a.s.now a.p a.strict h.before.before.read_head.ensures.0 (sym h.is-refusal.ensures ∙ c.if1.true))
+    promised h (head_ends a.s.now a.p a.strict h.before.before.read_head.ensures.0 (sym h.is-refusal.ensures ∙ c.if1.true))
 
 read-rest-requires : tie.Need-read-rest-requires
 unfolding put_layout

@@ -27,7 +27,7 @@ use Rattle.seq_hdr.specs.HeaderLayout.{HeaderLayout}
 use Rattle.seq_hdr.specs.Into.{parse_seq_hdr_into}
 use Rattle.seq_hdr.specs.Tiling.{read_tiling}
 use Rattle.seq_hdr.proofs.HeaderLayout.{header_layout}
-use Rattle.seq_hdr.proofs.Into.{room-still, goes_over, head-ends, as-refused, rest_of, head-goes-on}
+use Rattle.seq_hdr.proofs.Into.{room-still, goes_over, head_ends, as_refused, rest_of, head_goes_on}
 use Rattle.seq_hdr.proofs.read_seq_hdr.Statement.{statement}
 use Rattle.seq_hdr.proofs.read_seq_hdr.Tie as tie
 
@@ -105,7 +105,7 @@ returns-2 c =
     let x = r.result in
     let refusal : is_refusal x.answer ≡ true = sym h.is-refusal.ensures ∙ c.before.before.before.if2.true in
     zeros a.s.now a.p a.strict a.out.now (given (start v)) (roomy v) x.answer x.next v.before.before.before.cols.given v.before.rows.given
-    (head-ends a.s.now a.p a.strict r.ensures.0 refusal ∙ as-refused a.s.now a.p a.strict r.ensures.0 refusal)
+    (head_ends a.s.now a.p a.strict r.ensures.0 refusal ∙ as_refused a.s.now a.p a.strict r.ensures.0 refusal)
     (c.before.put-zeros.ensures ∙ r.ensures.1.behind (replicate 146 (pos 0))) v.before.before.before.before.before.before.clear-layout.ensures
 
 read-rest-requires : tie.Need-read-rest-requires
@@ -121,7 +121,7 @@ read-rest-requires c κs =
 to_rest : (n : tie.Else2) → let a = (start (cleared n.before)).args in parse_seq_hdr a.s.now a.p a.strict ≡ rest_of a.strict a.s.now n.before.before.before.before.read_head.result
 to_rest n =
     let a = (start (cleared n.before)).args in
-    head-goes-on a.s.now a.p a.strict n.before.before.before.before.read_head.ensures.0 (sym n.before.is-refusal.ensures ∙ n.if2.false)
+    head_goes_on a.s.now a.p a.strict n.before.before.before.before.read_head.ensures.0 (sym n.before.is-refusal.ensures ∙ n.if2.false)
 
 returns-3 : tie.Need-returns-3
 returns-3 c =

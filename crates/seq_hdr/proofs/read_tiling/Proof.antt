@@ -33,10 +33,10 @@ module _ (sb128 : ℕ) (size : FrameSize) (level : Level) (s : List ℕ) (p : Pl
   unfolding read_tiling flag_if tile_info_if
   without v = through _ _ e ∙ rw v (through _ _ refl ∙ through _ _ refl)
 
-  with-layout : {adaptive : Flag} → present.value ≡ true → adaptive ≡ get_flag s present.next → let z = parse_tile_info s adaptive.next no_tile_info (tiling_args sb128 size level) in
+  with_layout_lem : {adaptive : Flag} → present.value ≡ true → adaptive ≡ get_flag s present.next → let z = parse_tile_info s adaptive.next no_tile_info (tiling_args sb128 size level) in
       read_tiling sb128 size level s p ≡ record { answer = z.answer; fields = record { present = pick adaptive.value Adaptive On; t = z.info }; next = z.next }
   unfolding read_tiling flag_if tile_info_if
-  with-layout v f = through _ _ e ∙ rw v (through _ _ f ∙ through _ _ refl)
+  with_layout_lem v f = through _ _ e ∙ rw v (through _ _ f ∙ through _ _ refl)
 
 -- the buffers lent
 abbrev given : tie.Start → Buffers
@@ -77,7 +77,7 @@ returns-2 c =
     tiling-into (parse_tile_info a.s.now q no_tile_info args) (given s) s.requires.0
     (into ∙ taken _ _ _ s.requires.0 ∙ ap (λ (old : TileInfo). read_into (parse_tile_info a.s.now q old args) (given s)) (none s))
     k.before.before.before.before.cols.given k.before.before.rows.given k.adaptive-or.ensures
-    (with-layout a.sb128 a.size a.level a.s.now a.p g.get-flag.ensures (not-false _ n.if1.false) f.get-flag2.ensures)
+    (with_layout_lem a.sb128 a.size a.level a.s.now a.p g.get-flag.ensures (not-false _ n.if1.false) f.get-flag2.ensures)
 
 pub read-tiling-spec : {M : Type 1} → statement M
 read-tiling-spec =

@@ -1,7 +1,7 @@
 -- `superblocks::tile_log2` meets its contract. Assumes nothing.
 use Rattle.std.proofs.Common.{◌≡◌, ℕ, zero, suc, ◌+◌, ◌-◌, ◌*◌, ◌%◌, ◌^◌, ◌<◌, ◌≤◌, ap, ◌∙◌, lt_of_lt_of_le, mod-eq_of_lt, mul-lt-mul_of_pos_right, arith, pow_pos, pow_mono, pow-add, rules}
 use lib.Count.{count_leading_zeros, leading_length}
-use Rattle.tile_layout.proofs.Logs.{log-more, log_is}
+use Rattle.tile_layout.proofs.Logs.{log_more, log_is}
 use Rattle.superblocks.proofs.tile_log2.Statement.{statement}
 use Rattle.superblocks.proofs.tile_log2.Tie as tie
 
@@ -54,7 +54,7 @@ returns c =
     let u = c.before in
     let l = a u in
     let m = b u in
-    omega (arith, by u, log-more l.0 m.0 (sz u) (tgt u) l.2 l.3 m.2 m.3 u.before.requires.0 u.before.requires.1 (rw (shifted u) at c.if1.true))
+    omega (arith, by u, log_more l.0 m.0 (sz u) (tgt u) l.2 l.3 m.2 m.3 u.before.requires.0 u.before.requires.1 (rw (shifted u) at c.if1.true))
 
 cast-result-2 : tie.Need-overflow-cast-result-2
 cast-result-2 c = omega (arith, by c.before, (b c.before).1)

@@ -10,7 +10,7 @@ use Rattle.flat.specs.Layout.{Buffers, buffers, layout_in}
 use Rattle.tile_layout.specs.Layout.{non_uniform_layout}
 use Rattle.tile_layout.specs.declared.TileRead.{TileRead}
 use Rattle.tile_info.specs.declared.TileOutcome.{TileOutcome}
-use Rattle.tile_info.proofs.Into.{all-kept, restored}
+use Rattle.tile_info.proofs.Into.{all_kept, restored}
 use Rattle.tile_info.proofs.Rules.{never_refused}
 use Rattle.tile_info.proofs.nonuniform_layout.Statement.{statement}
 use Rattle.tile_info.proofs.nonuniform_layout.Tie as tie
@@ -62,7 +62,7 @@ returns-2 c =
     let r = k.before.before.before.before.before.before.before in
     let s = r.before.before.before.before.before.before.before.before.before.before.before.before.before.before in
     let w = r.read-nonuniform.ensures in
-    all-kept (read s) (given s) w (sym (ap (λ (z : TileOutcome). is_refusal z.answer) w.answers) ∙ sym k.is-refusal.ensures ∙ c.if1.false)
+    all_kept (read s) (given s) w (sym (ap (λ (z : TileOutcome). is_refusal z.answer) w.answers) ∙ sym k.is-refusal.ensures ∙ c.if1.false)
 
 pub nonuniform-layout-spec : {M : Type 1} → statement M
 nonuniform-layout-spec =

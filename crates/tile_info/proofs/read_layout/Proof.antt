@@ -18,7 +18,7 @@ use Rattle.tile_layout.specs.declared.TileArgs.{TileArgs}
 use Rattle.tile_layout.specs.declared.TileInfo.{TileInfo}
 use Rattle.tile_layout.specs.declared.TileRead.{TileRead}
 use Rattle.tile_info.specs.Into.{read_into}
-use Rattle.tile_info.proofs.Word.{flag-set, flag-unset}
+use Rattle.tile_info.proofs.Word.{flag_set, flag_unset}
 use Rattle.tile_info.proofs.read_layout.Statement.{statement}
 use Rattle.tile_info.proofs.read_layout.Tie as tie
 
@@ -32,9 +32,9 @@ module _ (s : List ℕ) (p : Place) (old : TileInfo) (a : TileArgs) (d : in_doma
   unfolding parse_tile_info
   uniform e = taken _ _ _ d ∙ through _ _ refl ∙ taken _ _ _ e
 
-  non-uniform : (get_flag s p).value ≡ false → parse_tile_info s p old a ≡ non_uniform_layout s (get_flag s p).next old a
+  non_uniform : (get_flag s p).value ≡ false → parse_tile_info s p old a ≡ non_uniform_layout s (get_flag s p).next old a
   unfolding parse_tile_info
-  non-uniform e = taken _ _ _ d ∙ through _ _ refl ∙ left _ _ _ e
+  non_uniform e = taken _ _ _ d ∙ through _ _ refl ∙ left _ _ _ e
 
 -- a uniform layout is accepted
 accepted : (s : List ℕ) (q : Place) (a : TileArgs) (b : Buffers) {n : Place} {after : Buffers} → (n ≡ (uniform_layout s q a).next) × (after ≡ put_layout (uniform_layout s q a).info b)
@@ -59,7 +59,7 @@ returns c =
     let t = u.before.before.before.before in
     let s = t.before.before.before.before.before.before.before in
     let a = s.args in
-    let flag = flag-set a.s.now a.p t.before.look-ahead.result t.before.look-ahead.ensures t.if1.true in
+    let flag = flag_set a.s.now a.p t.before.look-ahead.result t.before.look-ahead.ensures t.if1.true in
     accepted a.s.now _ a.a (given s) u.uniform-layout.ensures
     ∙ ap (λ (z : TileRead). read_into z (given s)) (sym (uniform a.s.now a.p (layout_in (given s)) a.a s.requires.0 flag))
 
@@ -77,10 +77,10 @@ returns-2 c =
     let e = g.before in
     let s = e.before.before.before.before.before.before.before in
     let a = s.args in
-    let flag = flag-unset a.s.now a.p e.before.look-ahead.result e.before.look-ahead.ensures e.if1.false in
+    let flag = flag_unset a.s.now a.p e.before.look-ahead.result e.before.look-ahead.ensures e.if1.false in
     u.nonuniform-layout.ensures
     ∙ ap (λ (q : Place). read_into (non_uniform_layout a.s.now q (layout_in (given s)) a.a) (given s)) (behind a.s.now a.p g.get-bit.result g.get-bit.ensures)
-    ∙ ap (λ (z : TileRead). read_into z (given s)) (sym (non-uniform a.s.now a.p (layout_in (given s)) a.a s.requires.0 flag))
+    ∙ ap (λ (z : TileRead). read_into z (given s)) (sym (non_uniform a.s.now a.p (layout_in (given s)) a.a s.requires.0 flag))
 
 pub read-layout-spec : {M : Type 1} → statement M
 read-layout-spec =

@@ -6,7 +6,7 @@ use Rattle.getbits.proofs.Chain.{taken}
 use Rattle.flat.specs.Layout.{Buffers, buffers, layout_in}
 use Rattle.flat.proofs.Room.{room, put_over}
 use Rattle.tile_info.proofs.Into.{in_front, behind_stays, refused-into, accepted-into}
-use Rattle.tile_info.proofs.Rules.{cols-short, rows_short, sized-made}
+use Rattle.tile_info.proofs.Rules.{cols_short, rows_short, sized_made}
 use Rattle.tile_layout.proofs.Domain.{domain, across, down, limits}
 use Rattle.tile_layout.specs.Layout.{read_sizes, padded, non_uniform_edges, row_limit}
 use Rattle.tile_info.proofs.read_nonuniform.Statement.{statement}
@@ -28,7 +28,7 @@ returns c =
     let s = t.before.before.before.before.before.before in
     let z = t.read-tiles.ensures in
     refused-into _ (given s) _ _ (behind_stays t.read-tiles.result z) refl (layout_in (given s)) _
-    (cols-short s.args.s.now s.args.p (layout_in (given s)) s.requires.1.0 t.read-tiles.result z c.before.if1.true)
+    (cols_short s.args.s.now s.args.p (layout_in (given s)) s.requires.1.0 t.read-tiles.result z c.before.if1.true)
     c.invalid-tile-info.ensures refl
 
 max-tile-height-sb-requires : tie.Need-max-tile-height-sb-requires
@@ -78,7 +78,7 @@ returns-3 c =
     let widths = (read_sizes 64 s.args.s.now s.args.p k.sbw.0 k.max_tile_width_sb.0).sizes in
     let heights = (read_sizes 64 s.args.s.now t.read-tiles.result.next k.sbh.0 m.max-tile-height-sb.result.0).sizes in
     accepted-into _ (given s) _ _ (behind_stays t.read-tiles.result z) (behind_stays r.read-tiles2.result y) _ _
-    (sized-made s.args.s.now s.args.p (layout_in (given s)) s.requires.1.0 t.read-tiles.result z r.read-tiles2.result _ e.if1.false
+    (sized_made s.args.s.now s.args.p (layout_in (given s)) s.requires.1.0 t.read-tiles.result z r.read-tiles2.result _ e.if1.false
     m.max-tile-height-sb.ensures y f.if2.false _ (rw has refl))
     refl
     (put_over _ (given s) has i.put-layout-bytes.ensures (in_front (padded (non_uniform_edges widths k.sbw.0)) s.args.cols.now w.cols z.stored)

@@ -10,8 +10,8 @@ use Rattle.getbits.proofs.Callers.{as_read}
 use Rattle.flat.specs.Layout.{Buffers, buffers, put_layout}
 use Rattle.flat.proofs.Room.{room, put_over}
 use Rattle.tile_info.proofs.Into.{in_front}
-use Rattle.tile_info.proofs.Rules.{uniform-made}
-use Rattle.tile_layout.proofs.Area.{min_cols, max_cols, min-rows, max_rows}
+use Rattle.tile_info.proofs.Rules.{uniform_made}
+use Rattle.tile_layout.proofs.Area.{min_cols, max_cols, min_rows, max_rows}
 use Rattle.tile_layout.proofs.Logs.{log_read}
 use Rattle.tile_layout.proofs.Domain.{domain}
 use Rattle.tile_layout.specs.Layout.{padded, uniform_edges, read_log2}
@@ -50,7 +50,7 @@ read-log2-requires-2 c κs =
     let d = domain s.args.a s.requires.0 in
     let k = s.requires.1.0 in
     let l = log_read s.args.s.now (flag s) s.args.k.min_log2_cols s.args.k.max_log2_cols in (
-      omega (arith, c.usub.ensures, k.min_tiles, k.min_cols, (across z).0, l, min-rows s.args.a d z.read-log2.result.log2 (omega (arith, k.min_cols, (across z).0, l))),
+      omega (arith, c.usub.ensures, k.min_tiles, k.min_cols, (across z).0, l, min_rows s.args.a d z.read-log2.result.log2 (omega (arith, k.min_cols, (across z).0, l))),
       omega (arith, k.max_rows, max_rows _ d),
       omega (arith, z.read-log2.ensures.1.1),
     )
@@ -86,7 +86,7 @@ returns c =
     let down = r.read-log22.ensures.0 bytes p s.requires.1.1.0 in
     let cn = (read_bits bytes p l.read-log2.result.used).next in
     let made =
-    uniform-made bytes (flag s) s.requires.1.0 l.read-log2.result.log2 r.read-log22.result.log2 cn _ _ _ _ _ _
+    uniform_made bytes (flag s) s.requires.1.0 l.read-log2.result.log2 r.read-log22.result.log2 cn _ _ _ _ _ _
     (across l).0 (across l).1 u.usub.ensures down.0 down.1
     x.uniform-starts.ensures.0 refl y.uniform-starts2.ensures.0 refl in
     let next = ap (λ (n : Number). n.next) (as_read bytes p r.read-log22.result.used (omega (arith, l.read-log2.ensures.1.1, r.read-log22.ensures.1.1)) b.read-bits.ensures) in

@@ -6,7 +6,7 @@ use native.Mathlib.Omega.{arith}
 use borrow.Author.Rules.{rules}
 use lib.ListN.{length, get_or}
 use Rattle.getbits.proofs.Places.{lt_or_le}
-use Rattle.layout_writing.proofs.Same.{starts-differ, starts-same}
+use Rattle.layout_writing.proofs.Same.{starts_differ, starts_same}
 use Rattle.tile_write.proofs.same_starts.Statement.{statement}
 use Rattle.tile_write.proofs.same_starts.Tie as tie
 
@@ -23,7 +23,7 @@ returns : tie.Need-returns invariant-loop decreases-loop
 returns c =
     let k = c.before.before.before in
     let s = k.before.before in
-    sym (starts-differ s.args.a.now s.args.b.now k.before.loop.i c.if1.true)
+    sym (starts_differ s.args.a.now s.args.b.now k.before.loop.i c.if1.true)
 
 loop-again : tie.Need-loop-preserved invariant-loop decreases-loop
 loop-again c =
@@ -42,7 +42,7 @@ returns-2 : tie.Need-returns-2 invariant-loop decreases-loop
 returns-2 c =
     let l = c.before in
     let s = l.before in
-    sym (starts-same s.args.a.now s.args.b.now s.requires (λ k h. l.loop.invariant.1 k (omega (arith, c.loop-test.false))))
+    sym (starts_same s.args.a.now s.args.b.now s.requires (λ k h. l.loop.invariant.1 k (omega (arith, c.loop-test.false))))
 
 pub same-starts-spec : {M : Type 1} → statement M
 same-starts-spec =

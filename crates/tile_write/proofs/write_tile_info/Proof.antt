@@ -24,7 +24,7 @@ use Rattle.layout_writing.specs.Write.{fresh, again, reads_as, write_tile_info}
 use Rattle.layout_writing.specs.Promises.{SomeBits}
 use Rattle.layout_writing.proofs.Reading.{start, some_bits, short}
 use Rattle.layout_writing.proofs.Writing.{promised}
-use Rattle.tile_write.proofs.Row.{row-known, asked}
+use Rattle.tile_write.proofs.Row.{row_known, asked}
 use Rattle.tile_write.proofs.write_tile_info.Statement.{statement}
 use Rattle.tile_write.proofs.write_tile_info.Tie as tie
 
@@ -63,8 +63,8 @@ module _ (c : tie.After-reads-as) where
   abbrev s : tie.Start
   s = begin (asked-domain c)
 
-  in-it : in_domain (given s) ≡ true
-  in-it = sym (domain_asked (asked-domain c)) ∙ not-false _ (row_made c).before.if1.false
+  in_it : in_domain (given s) ≡ true
+  in_it = sym (domain_asked (asked-domain c)) ∙ not-false _ (row_made c).before.if1.false
 
   -- the row of bits, and what it reads as
   bytes : (row_made c).Layout-row.result.bytes ≡ bytes_of 177 (row_of (given s) s.args.t)
@@ -85,7 +85,7 @@ returns-2 c =
     let q = c.before.before in
     promised (given (s q)) (s q).args.t (s q).args.out.now
     (ap (λ (w : Written). (w, (s q).args.out.now)) c.refused2.ensures
-    ∙ sym (taken _ _ _ (in-it q) ∙ left _ _ _ (sym (question q) ∙ not-true _ c.before.if2.true)))
+    ∙ sym (taken _ _ _ (in_it q) ∙ left _ _ _ (sym (question q) ∙ not-true _ c.before.if2.true)))
 
 -- the record can be read
 module _ (k : tie.Else2) where
@@ -105,7 +105,7 @@ module _ (k : tie.Else2) where
   bits =
       (row_made k.before).Layout-row.ensures.0
       ∙ ap (λ (x : TileArgs). length (row_of x t)) (made (asked-domain k.before))
-      ∙ ap length (row-known a t some)
+      ∙ ap length (row_known a t some)
 
 add-n : tie.Need-overflow-add-n
 add-n k = omega (arith, bits k, short (a k) (t k) (some k))
@@ -118,7 +118,7 @@ returns-3 c =
     let n : length o < byte_count (layout_bits (a k) (t k)) = rw (bits k) at c.before.if3.true in
     promised (a k) (t k) o
     (ap (λ (w : Written). (w, o)) c.refused3.ensures
-    ∙ sym (taken _ _ _ (in-it k.before) ∙ taken _ _ _ (good k) ∙ left _ _ _ (lt-leb (byte_count (layout_bits (a k) (t k))) (length o) n)))
+    ∙ sym (taken _ _ _ (in_it k.before) ∙ taken _ _ _ (good k) ∙ left _ _ _ (lt-leb (byte_count (layout_bits (a k) (t k))) (length o) n)))
 
 abbrev asked-room : tie.After-bytes3 → tie.Else3
 asked-room c = c.before.before
@@ -139,13 +139,13 @@ returns-4 c =
     let row = layout_bits (a k) (t k) in
     let o = (s k.before).args.out.now in
     let n : byte_count row ≤ length o = omega (arith, bits k, (asked-room p.before).if3.false) in
-    let x = bytes k.before ∙ ap (bytes_of 177) (row-known (a k) (t k) (some k)) in
+    let x = bytes k.before ∙ ap (bytes_of 177) (row_known (a k) (t k) (some k)) in
     let out = p.put-bytes.ensures
     ∙ ap₂ (λ (m : ℕ) (y : List ℕ). take ((m + 7) / 8) y ++ drop ((m + 7) / 8) o) (bits k) x
     ∙ ap (λ (y : List ℕ). y ++ drop (byte_count row) o) (bytes_take (byte_count row) 177 row (omega (arith, short (a k) (t k) (some k)))) in
     promised (a k) (t k) o
     (ap₂ (λ (m : ℕ) (y : List ℕ). (record { answer = Accepted; bits = m }, y)) (bits k) out
-    ∙ sym (taken _ _ _ (in-it k.before) ∙ taken _ _ _ (good k) ∙ taken _ _ _ (le-leb (byte_count row) (length o) n)))
+    ∙ sym (taken _ _ _ (in_it k.before) ∙ taken _ _ _ (good k) ∙ taken _ _ _ (le-leb (byte_count row) (length o) n)))
 
 pub write-tile-info-spec : {M : Type 1} → statement M
 write-tile-info-spec =

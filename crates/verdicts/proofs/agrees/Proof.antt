@@ -3,7 +3,7 @@ use mathlib.Core.Path.{sym, ◌∙◌}
 use native.Mathlib.Omega.{arith}
 use borrow.Author.Rules.{rules}
 use lib.Seq.{length-take-le}
-use Rattle.verdicts.proofs.Rows.{enough, few-stored, few-ours}
+use Rattle.verdicts.proofs.Rows.{enough, few_stored, few_ours}
 use Rattle.verdicts.proofs.agrees.Statement.{statement}
 use Rattle.verdicts.proofs.agrees.Tie as tie
 
@@ -21,12 +21,12 @@ returns c =
 returns-2 : tie.Need-returns-2
 returns-2 c =
     let a = c.before.before.before.args in
-    few-stored a.ours.now a.n a.stored.now a.m (omega arith) (omega arith)
+    few_stored a.ours.now a.n a.stored.now a.m (omega arith) (omega arith)
 
 returns-3 : tie.Need-returns-3
 returns-3 c =
     let a = c.before.before.args in
-    few-ours a.ours.now a.n a.stored.now a.m (omega arith)
+    few_ours a.ours.now a.n a.stored.now a.m (omega arith)
 
 pub agrees-spec : {M : Type 1} → statement M
 agrees-spec =

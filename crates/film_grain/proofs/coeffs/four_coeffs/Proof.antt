@@ -15,7 +15,7 @@ use Rattle.getbits.specs.declared.Place.{Place}
 use Rattle.getbits.proofs.Callers.{power_below}
 use Rattle.getbits.proofs.Chain.{through}
 use Rattle.getbits.proofs.Fields.{bits_lt}
-use Rattle.getbits.proofs.Parts.{look_bits, skip_there, first-bits, first_read, last-read}
+use Rattle.getbits.proofs.Parts.{look_bits, skip_there, first_bits, first_read, last_read}
 use Rattle.film_grain.specs.Coeffs.{coeff}
 use Rattle.film_grain.specs.Inner.{lent_coeffs}
 use Rattle.film_grain.proofs.Numbers.{less_read}
@@ -37,16 +37,16 @@ module _ (s : List ℕ) (p : Place) (n w : ℕ) (small : n ≤ 8) (room : positi
   first_of : get_bits s p (pos n) ≡ record { value = w / 2 ^ (3 * n); next = place_at (position s p + n) p.error }
   first_of = first_read s p n (3 * n) w (omega arith) (split n (3 * n) (omega arith)) (omega arith)
 
-  second-of : get_bits s (place_at (position s p + n) p.error) (pos n) ≡ record { value = w / 2 ^ (2 * n) % 2 ^ n; next = place_at (position s p + (n + n)) p.error }
-  second-of = last-read s p n n (w / 2 ^ (2 * n)) (omega arith) (first-bits s p (n + n) (2 * n) w (omega arith) (split (n + n) (2 * n) (omega arith))) (omega arith)
+  second_of : get_bits s (place_at (position s p + n) p.error) (pos n) ≡ record { value = w / 2 ^ (2 * n) % 2 ^ n; next = place_at (position s p + (n + n)) p.error }
+  second_of = last_read s p n n (w / 2 ^ (2 * n)) (omega arith) (first_bits s p (n + n) (2 * n) w (omega arith) (split (n + n) (2 * n) (omega arith))) (omega arith)
 
   third_of : get_bits s (place_at (position s p + (n + n)) p.error) (pos n) ≡ record { value = w / 2 ^ n % 2 ^ n; next = place_at (position s p + (n + n + n)) p.error }
-  third_of = last-read s p (n + n) n (w / 2 ^ n) (omega arith) (first-bits s p (n + n + n) n w (omega arith) (split (n + n + n) n (omega arith))) (omega arith)
+  third_of = last_read s p (n + n) n (w / 2 ^ n) (omega arith) (first_bits s p (n + n + n) n w (omega arith) (split (n + n + n) n (omega arith))) (omega arith)
 
-  fourth-of : get_bits s (place_at (position s p + (n + n + n)) p.error) (pos n) ≡ record { value = w % 2 ^ n; next = place_at (position s p + 4 * n) p.error }
-  fourth-of =
+  fourth_of : get_bits s (place_at (position s p + (n + n + n)) p.error) (pos n) ≡ record { value = w % 2 ^ n; next = place_at (position s p + 4 * n) p.error }
+  fourth_of =
       let f : n + n + n + n ≡ 4 * n = omega arith in
-      last-read s p (n + n + n) n w (omega arith) (split (n + n + n) n (omega arith)) (omega arith) ∙ rw f
+      last_read s p (n + n + n) n w (omega arith) (split (n + n + n) n (omega arith)) (omega arith) ∙ rw f
 
   four : (i : ℕ) (l : List ℤ) → let h = pos (2 ^ (n - 1)) in
       lent_coeffs (set (set (set (set l i (pos (w / 2 ^ (3 * n)) -ℤ h)) (i + 1) (pos (w / 2 ^ (2 * n) % 2 ^ n) -ℤ h)) (i + 2) (pos (w / 2 ^ n % 2 ^ n) -ℤ h)) (i + 3) (pos (w % 2 ^ n) -ℤ h))
@@ -54,13 +54,13 @@ module _ (s : List ℕ) (p : Place) (n w : ℕ) (small : n ≤ 8) (room : positi
       ≡ coeff s n (i + 3) (coeff s n (i + 2) (coeff s n (i + 1) (coeff s n i (lent_coeffs l p))))
   four i l =
       sym (ap (λ x. coeff s n (i + 3) (coeff s n (i + 2) (coeff s n (i + 1) x))) (put s n i _ l p _ first_of)
-      ∙ ap (λ x. coeff s n (i + 3) (coeff s n (i + 2) x)) (put s n (i + 1) _ _ _ _ second-of)
+      ∙ ap (λ x. coeff s n (i + 3) (coeff s n (i + 2) x)) (put s n (i + 1) _ _ _ _ second_of)
       ∙ ap (coeff s n (i + 3)) (put s n (i + 2) _ _ _ _ third_of)
-      ∙ put s n (i + 3) _ _ _ _ fourth-of)
+      ∙ put s n (i + 3) _ _ _ _ fourth_of)
 
   -- the first is below 2 ^ n too
-  first-lt : w / 2 ^ (3 * n) < 2 ^ n
-  first-lt = rw (first-bits s p n (3 * n) w (omega arith) (split n (3 * n) (omega arith))) (bits_lt s (position s p) n)
+  first_lt : w / 2 ^ (3 * n) < 2 ^ n
+  first_lt = rw (first_bits s p n (3 * n) w (omega arith) (split n (3 * n) (omega arith))) (bits_lt s (position s p) n)
 
 -- half the range
 twice : (n : ℕ) → 1 ≤ n → 2 ^ n ≡ 2 * 2 ^ (n - 1)
@@ -89,7 +89,7 @@ centred-requires : tie.Need-centred-requires
 centred-requires c κs =
     let s = c.before.before.before in
     let a = s.args in
-    (omega (arith, first-lt a.s.now a.p a.coef-bits c.before.look-ahead.result s.requires.1 s.requires.4 (all_bits_lem c.before), range s), small_half s)
+    (omega (arith, first_lt a.s.now a.p a.coef-bits c.before.look-ahead.result s.requires.1 s.requires.4 (all_bits_lem c.before), range s), small_half s)
 
 centred-requires-2 : tie.Need-centred-requires-2
 centred-requires-2 c κs = let k = c.before in (rest k _, small_half k.before.before.before)

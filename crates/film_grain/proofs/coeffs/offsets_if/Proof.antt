@@ -11,7 +11,7 @@ use Rattle.getbits.specs.Bits.{bits_at, bit_count, position, place_at}
 use Rattle.getbits.specs.declared.Place.{Place}
 use Rattle.getbits.proofs.Chain.{through}
 use Rattle.getbits.proofs.Fields.{bits_lt}
-use Rattle.getbits.proofs.Parts.{more_there, look_bits, skip_there, first-bits, first_read, last-read}
+use Rattle.getbits.proofs.Parts.{more_there, look_bits, skip_there, first_bits, first_read, last_read}
 use Rattle.film_grain.specs.Coeffs.{bits_less, offsets_if}
 use Rattle.film_grain.proofs.Numbers.{less_read}
 use Rattle.film_grain.proofs.coeffs.offsets_if.Statement.{statement}
@@ -22,11 +22,11 @@ module _ (s : List ℕ) (p : Place) (w : ℕ) (room : position s p + 25 ≤ bit_
   mult : record { value = pos (w / 2 ^ 17) -ℤ pos 128; next = place_at (position s p + 8) p.error } ≡ bits_less s p 8 128
   mult = sym (less_read s p 8 128 (first_read s p 8 17 w room e (omega arith)))
 
-  luma-mult : record { value = pos (w / 2 ^ 9 % 256) -ℤ pos 128; next = place_at (position s p + 16) p.error } ≡ bits_less s (place_at (position s p + 8) p.error) 8 128
-  luma-mult = sym (less_read s _ 8 128 (last-read s p 8 8 (w / 2 ^ 9) (omega arith) (first-bits s p 16 9 w room e) (omega arith)))
+  luma_mult : record { value = pos (w / 2 ^ 9 % 256) -ℤ pos 128; next = place_at (position s p + 16) p.error } ≡ bits_less s (place_at (position s p + 8) p.error) 8 128
+  luma_mult = sym (less_read s _ 8 128 (last_read s p 8 8 (w / 2 ^ 9) (omega arith) (first_bits s p 16 9 w room e) (omega arith)))
 
   offset : record { value = pos (w % 512) -ℤ pos 256; next = place_at (position s p + 25) p.error } ≡ bits_less s (place_at (position s p + 16) p.error) 9 256
-  offset = sym (less_read s _ 9 256 (last-read s p 16 9 w room e (omega arith)))
+  offset = sym (less_read s _ 9 256 (last_read s p 16 9 w room e (omega arith)))
 
 room : (c : tie.After-look-ahead) → let a = c.before.before.before.before.before.args in position a.s.now a.p + 25 ≤ bit_count a.s.now
 room c = let a = c.before.before.before.before.before.args in more_there a.s.now a.p 25 c.before.before.more-than.ensures c.before.if2.true
@@ -58,7 +58,7 @@ returns c =
     let w = k.look-ahead.result in
     rw (k.before.before.before.if1.true, back k1, back_2 k2, back_3 k3, k1.minus.ensures, k2.minus2.ensures, k3.minus3.ensures, skip_there a.s.now a.p 25 (room k) c.skip.ensures)
     (sym (through _ _ (mult a.s.now a.p w (room k) (all_bits_lem k))
-    ∙ through _ _ (luma-mult a.s.now a.p w (room k) (all_bits_lem k))
+    ∙ through _ _ (luma_mult a.s.now a.p w (room k) (all_bits_lem k))
     ∙ through _ _ (offset a.s.now a.p w (room k) (all_bits_lem k))))
 
 back_4 : (c : tie.After-bits-less) → to_z w16 (of_z w16 c.bits-less.result.value) ≡ c.bits-less.result.value

@@ -12,7 +12,7 @@ use Rattle.getbits.specs.Chain.{pick, turns}
 use Rattle.getbits.specs.declared.Place.{Place}
 use Rattle.getbits.proofs.Chain.{contrary, through}
 use Rattle.getbits.proofs.Fields.{bits_lt}
-use Rattle.getbits.proofs.Parts.{more_there, look_bits, skip_there, first-bits, first_read, last-read}
+use Rattle.getbits.proofs.Parts.{more_there, look_bits, skip_there, first_bits, first_read, last_read}
 use Rattle.seq_fields.specs.Fields.{get_small}
 use Rattle.seq_fields.specs.declared.Small.{Small}
 use Rattle.film_grain.specs.Points.{no_points, points_from, plane_points}
@@ -49,10 +49,10 @@ module _ (s : List ℕ) (p : Place) (w : ℕ) (room : position s p + 9 ≤ bit_c
   count = sym (uncut s p 4 (omega arith) (first_read s p 4 5 w room e (omega arith)))
 
   index : record { value = w / 4 % 8; next = place_at (position s p + 7) p.error } ≡ get_small s (place_at (position s p + 4) p.error) 3
-  index = sym (uncut _ _ 3 (omega arith) (last-read s p 4 3 (w / 4) (omega arith) (first-bits s p 7 2 w room e) (omega arith)))
+  index = sym (uncut _ _ 3 (omega arith) (last_read s p 4 3 (w / 4) (omega arith) (first_bits s p 7 2 w room e) (omega arith)))
 
   scaling : record { value = w % 4; next = place_at (position s p + 9) p.error } ≡ get_small s (place_at (position s p + 7) p.error) 2
-  scaling = sym (uncut _ _ 2 (omega arith) (last-read s p 7 2 w room e (omega arith)))
+  scaling = sym (uncut _ _ 2 (omega arith) (last_read s p 7 2 w room e (omega arith)))
 
 room : (c : tie.After-look-ahead) → let a = c.before.before.before.before.args in position a.s.now a.p + 9 ≤ bit_count a.s.now
 room c = let a = c.before.before.before.before.args in more_there a.s.now a.p 9 c.before.before.more-than.ensures c.before.if1.true

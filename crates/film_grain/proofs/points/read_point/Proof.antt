@@ -7,7 +7,7 @@ use borrow.Author.Rules.{rules}
 use lib.Pow.{pow_mono, pow_pos}
 use Rattle.getbits.specs.Bits.{bit_count, position}
 use Rattle.getbits.proofs.Callers.{power_below}
-use Rattle.getbits.proofs.Parts.{more_there, look_bits, skip_there, first_read, last-read}
+use Rattle.getbits.proofs.Parts.{more_there, look_bits, skip_there, first_read, last_read}
 use Rattle.film_grain.proofs.Numbers.{uncut}
 use Rattle.film_grain.proofs.points.read_point.Statement.{statement}
 use Rattle.film_grain.proofs.points.read_point.Tie as tie
@@ -34,7 +34,7 @@ returns c =
     let w = k.before.look-ahead.result in
     let e = look_bits a.s.now a.p (a.index-bits + a.scaling-bits) (omega (arith, s.requires.1, s.requires.3)) k.before.look-ahead.ensures in
     let step = first_read a.s.now a.p a.index-bits a.scaling-bits w (room k.before) e (omega (arith, s.requires.1)) in
-    let value = last-read a.s.now a.p a.index-bits a.scaling-bits w (room k.before) e (omega (arith, s.requires.3)) in
+    let value = last_read a.s.now a.p a.index-bits a.scaling-bits w (room k.before) e (omega (arith, s.requires.3)) in
     rw (low k, skip_there a.s.now a.p (a.index-bits + a.scaling-bits) (room k.before) c.skip.ensures, step) (refl, sym (uncut _ _ a.scaling-bits s.requires.3 value))
 
 returns-2 : tie.Need-returns-2

@@ -5,7 +5,7 @@ use Prim.Native.Nat.{ℕ, ◌-◌, ◌*◌, ◌≤◌, ◌<◌}
 use native.Mathlib.Omega.{arith}
 use lib.ListN.{length, get_or, take, drop, length-set}
 use lib.Seq.{get_or-take}
-use Rattle.flat.proofs.Room.{cleared-front, cleared-rest}
+use Rattle.flat.proofs.Room.{cleared_front, cleared_rest}
 use Rattle.tile_layout.proofs.Laws.{stored}
 use Rattle.tile_layout.specs.Layout.{tabulate, padded}
 use Rattle.superblocks.specs.Counts.{multiplier_of}
@@ -35,7 +35,7 @@ loop-holds : tie.Need-loop-init invariant-loop decreases-loop
 unfolding tabulate
 loop-holds c =
     let s = c.before.before.before.before.before.before in
-    (omega arith, cleared-front _ s.args.at.now s.requires.0 c.before.before.clear-starts.ensures, refl)
+    (omega arith, cleared_front _ s.args.at.now s.requires.0 c.before.before.clear-starts.ensures, refl)
 
 slice-write-at : tie.Need-slice-write-at invariant-loop decreases-loop
 slice-write-at c =
@@ -70,7 +70,7 @@ returns c =
     let s = start c.before in
     let q : l.i ≡ s.args.tiles = omega (arith, l.invariant.0, c.loop-test.false) in
     let clear = c.before.before.before.before.clear-starts in
-    let rest = cleared-rest clear.new.0 s.args.at.now s.pre.0 clear.ensures in
+    let rest = cleared_rest clear.new.0 s.args.at.now s.pre.0 clear.ensures in
     l.invariant.1
     ∙ ap (λ (n : ℕ). padded (tabulate (starts-of s) 0 n) ++ drop 65 clear.new.0) q
     ∙ ap (λ (r : List ℕ). padded (tabulate (starts-of s) 0 s.args.tiles) ++ r) rest

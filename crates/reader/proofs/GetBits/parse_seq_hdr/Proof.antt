@@ -16,7 +16,7 @@ use Rattle.reader.specs.contracts.GetBits.parse_seq_hdr as parse-seq-hdr
 use Rattle.reader.specs.contracts.GetBits.parse_seq_hdr.Key.{name as #parse-seq-hdr}
 use Rattle.reader.proofs.GetBits.parse_seq_hdr.Statement as stated
 use Rattle.reader.proofs.GetBits.parse_seq_hdr.Code as code
-use Rattle.reader.proofs.Claim.{Answer, Fact, equals, first, proved-two}
+use Rattle.reader.proofs.Claim.{Answer, Fact, equals, first, proved_two}
 use Rattle.reader.proofs.Operation.{op, walk}
 use Rattle.reader.proofs.Param.{Param, rows, boolean, bytes}
 use Rattle.reader.proofs.Types.{place, reader, seq_read, seq_hdr_read}
@@ -48,7 +48,7 @@ law κs xs r e = subst (ψ κs xs) (sym e) (header_layout xs.0.«data».now xs.0
 pub parse-seq-hdr-spec : {M : Type 1} → stated.statement M
 unfolding code.routine
 parse-seq-hdr-spec 𝓤 𝓛 𝓜 𝓡 =
-    proved-two 𝓛 𝓜 𝓡 code.env #parse-seq-hdr code.function (code.unfolded 𝓤 𝓛.H 𝓜 𝓡) Ps seq_hdr_read φ ψ law
+    proved_two 𝓛 𝓜 𝓡 code.env #parse-seq-hdr code.function (code.unfolded 𝓤 𝓛.H 𝓜 𝓡) Ps seq_hdr_read φ ψ law
     (λ κs xs. (parse-seq-hdr.clauses 𝓛 𝓜.mem 𝓡.run κs xs).ensures tt) (λ κs xs r e. refl)
     (λ 𝓣 cite.
     walk 𝓛 𝓣 (boolean ∷ []) seq_read seq_hdr_read f-def.name g-def.name f g (

@@ -15,7 +15,7 @@ use Rattle.reader.specs.contracts.GetBits.parse_tile_info_frmhdr as parse-tile-i
 use Rattle.reader.specs.contracts.GetBits.parse_tile_info_frmhdr.Key.{name as #parse-tile-info-frmhdr}
 use Rattle.reader.proofs.GetBits.parse_tile_info_frmhdr.Statement as stated
 use Rattle.reader.proofs.GetBits.parse_tile_info_frmhdr.Code as code
-use Rattle.reader.proofs.Claim.{Answer, Fact, equals, first, proved-two}
+use Rattle.reader.proofs.Claim.{Answer, Fact, equals, first, proved_two}
 use Rattle.reader.proofs.Operation.{op, walk}
 use Rattle.reader.proofs.Param.{Param, rows, bytes}
 use Rattle.reader.proofs.Types.{place, reader, frame_header, seq_header, frame_read, frame_hdr_read}
@@ -47,7 +47,7 @@ law κs xs r e = subst (ψ κs xs) (sym e) (frame_promised xs.0.«data».now xs.
 pub parse-tile-info-frmhdr-spec : {M : Type 1} → stated.statement M
 unfolding code.routine
 parse-tile-info-frmhdr-spec 𝓤 𝓛 𝓜 𝓡 =
-    proved-two 𝓛 𝓜 𝓡 code.env #parse-tile-info-frmhdr code.function (code.unfolded 𝓤 𝓛.H 𝓜 𝓡) Ps frame_hdr_read φ ψ law
+    proved_two 𝓛 𝓜 𝓡 code.env #parse-tile-info-frmhdr code.function (code.unfolded 𝓤 𝓛.H 𝓜 𝓡) Ps frame_hdr_read φ ψ law
     (λ κs xs. (parse-tile-info-frmhdr.clauses 𝓛 𝓜.mem 𝓡.run κs xs).ensures tt) (λ κs xs r e. refl)
     (λ 𝓣 cite.
     walk 𝓛 𝓣 (frame_header ∷ seq_header ∷ []) frame_read frame_hdr_read f-def.name g-def.name f g (

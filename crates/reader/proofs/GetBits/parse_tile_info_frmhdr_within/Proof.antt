@@ -16,7 +16,7 @@ use Rattle.reader.specs.contracts.GetBits.parse_tile_info_frmhdr_within as parse
 use Rattle.reader.specs.contracts.GetBits.parse_tile_info_frmhdr_within.Key.{name as #parse-tile-info-frmhdr-within}
 use Rattle.reader.proofs.GetBits.parse_tile_info_frmhdr_within.Statement as stated
 use Rattle.reader.proofs.GetBits.parse_tile_info_frmhdr_within.Code as code
-use Rattle.reader.proofs.Claim.{Answer, Fact, equals, first, proved-two}
+use Rattle.reader.proofs.Claim.{Answer, Fact, equals, first, proved_two}
 use Rattle.reader.proofs.Operation.{op, walk}
 use Rattle.reader.proofs.Param.{Param, rows, bytes}
 use Rattle.reader.proofs.Types.{place, reader, frame_header, seq_header, tile_limit, frame_read, frame_hdr_read}
@@ -48,7 +48,7 @@ law κs xs r e = subst (ψ κs xs) (sym e) (limited_frame xs.0.«data».now xs.0
 pub parse-tile-info-frmhdr-within-spec : {M : Type 1} → stated.statement M
 unfolding code.routine
 parse-tile-info-frmhdr-within-spec 𝓤 𝓛 𝓜 𝓡 =
-    proved-two 𝓛 𝓜 𝓡 code.env #parse-tile-info-frmhdr-within code.function (code.unfolded 𝓤 𝓛.H 𝓜 𝓡) Ps frame_hdr_read φ ψ law
+    proved_two 𝓛 𝓜 𝓡 code.env #parse-tile-info-frmhdr-within code.function (code.unfolded 𝓤 𝓛.H 𝓜 𝓡) Ps frame_hdr_read φ ψ law
     (λ κs xs. (parse-tile-info-frmhdr-within.clauses 𝓛 𝓜.mem 𝓡.run κs xs).ensures tt) (λ κs xs r e. refl)
     (λ 𝓣 cite.
     walk 𝓛 𝓣 (frame_header ∷ seq_header ∷ tile_limit ∷ []) frame_read frame_hdr_read f-def.name g-def.name f g (

@@ -3,7 +3,7 @@ use mathlib.Core.Path.{◌≡◌, ◌∙◌, ap, ap₂}
 use Prim.Native.Nat.{ℕ, min, max}
 use Rattle.tile_layout.specs.Limits.{superblocks, sbw, sbh, tile_log2, min_log2_cols, max_log2_cols, max_log2_rows, min_log2_tiles}
 use Rattle.tile_info.specs.Inner.{Coded}
-use Rattle.tile_info.proofs.Coded.{frame-code, whole, held_width, held_area}
+use Rattle.tile_info.proofs.Coded.{frame_code_lem, whole, held_width, held_area}
 use borrow.Author.Rules.{rules}
 use Rattle.tile_info.proofs.limits.frame_limits.Statement.{statement}
 use Rattle.tile_info.proofs.limits.frame_limits.Tie as tie
@@ -22,7 +22,7 @@ returns c =
     let w = h.before in
     let s = w.before.before in
     let pair : Coded s.args.a w.before.of.result = record { of_frame = w.before.of.ensures.0; of_seq = w.before.of.ensures.1 } in
-    let code = frame-code s.requires pair in
+    let code = frame_code_lem s.requires pair in
     let across : w.frame-count.result.0 ≡ sbw s.args.a = w.frame-count.ensures ∙ ap (superblocks s.args.a.width) code in
     let down : h.frame-count2.result.0 ≡ sbh s.args.a = h.frame-count2.ensures ∙ ap (superblocks s.args.a.height) code in
     let wide = limit.max-tile-width-sb.ensures in

@@ -5,7 +5,7 @@ use native.Mathlib.Omega.{arith}
 use lib.Pow.{pow_mono}
 use Rattle.getbits.proofs.Callers.{power_below}
 use Rattle.tile_layout.specs.Limits.{area_limit}
-use Rattle.tile_info.proofs.Coded.{frame-code}
+use Rattle.tile_info.proofs.Coded.{frame_code_lem}
 use borrow.Author.Rules.{rules}
 use Rattle.tile_info.proofs.limits.max_tile_area_sb.Statement.{statement}
 use Rattle.tile_info.proofs.limits.max_tile_area_sb.Tie as tie
@@ -28,7 +28,7 @@ returns c =
     let s = z.before.before in
     let e = power_below (omega (arith, x.one-if3.ensures.1, y.one-if2.ensures.1, z.one-if.ensures.1)) c.before.power.ensures.0 in
     c.area_limit_lem.ensures
-    ∙ rw (e, z.one-if.ensures.0, y.one-if2.ensures.0, x.one-if3.ensures.0, frame-code s.requires.0 s.requires.1) refl
+    ∙ rw (e, z.one-if.ensures.0, y.one-if2.ensures.0, x.one-if3.ensures.0, frame_code_lem s.requires.0 s.requires.1) refl
 
 pub max-tile-area-sb-spec : {M : Type 1} → statement M
 max-tile-area-sb-spec =

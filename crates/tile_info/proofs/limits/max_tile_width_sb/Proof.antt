@@ -5,7 +5,7 @@ use native.Mathlib.Omega.{arith}
 use lib.Pow.{pow_mono}
 use Rattle.getbits.proofs.Callers.{power_below}
 use Rattle.tile_layout.specs.Limits.{width_limit}
-use Rattle.tile_info.proofs.Coded.{frame-code}
+use Rattle.tile_info.proofs.Coded.{frame_code_lem}
 use borrow.Author.Rules.{rules}
 use Rattle.tile_info.proofs.limits.max_tile_width_sb.Statement.{statement}
 use Rattle.tile_info.proofs.limits.max_tile_width_sb.Tie as tie
@@ -25,7 +25,7 @@ returns c =
     let y = x.before.before.before in
     let s = y.before.before in
     let e = power_below (omega (arith, x.one-if2.ensures.1, y.one-if.ensures.1)) c.before.power.ensures.0 in
-    c.width_limit_lem.ensures ∙ rw (e, y.one-if.ensures.0, x.one-if2.ensures.0, frame-code s.requires.0 s.requires.1) refl
+    c.width_limit_lem.ensures ∙ rw (e, y.one-if.ensures.0, x.one-if2.ensures.0, frame_code_lem s.requires.0 s.requires.1) refl
 
 pub max-tile-width-sb-spec : {M : Type 1} → statement M
 max-tile-width-sb-spec =

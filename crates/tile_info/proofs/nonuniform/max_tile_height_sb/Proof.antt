@@ -5,7 +5,7 @@ use native.Mathlib.Nat.{div-one}
 use native.Mathlib.Omega.{arith}
 use borrow.Author.Tests.{eq-eqb, ne_eqb}
 use lib.Dec.{eqb}
-use Rattle.tile_layout.proofs.Area.{low-tiles}
+use Rattle.tile_layout.proofs.Area.{low_tiles}
 use Rattle.tile_layout.proofs.Domain.{domain}
 use Rattle.tile_layout.specs.Layout.{row_area, row_limit}
 use Rattle.tile_layout.specs.Limits.{sbw, sbh, min_log2_tiles}
@@ -30,14 +30,14 @@ returns c =
     (div-one _ ∙ area t ∙ sym (taken (eqb (min_log2_tiles s.args.a) 0) _ _ (eq-eqb _ 0 (sym s.requires.1.min_tiles ∙ c.before.if1.true))))
 
 add-max-height : tie.Need-overflow-add-max-height
-add-max-height c = omega (arith, low-tiles _ (domain _ c.before.before.before.before.requires.0), c.before.before.before.before.requires.1.min_tiles)
+add-max-height c = omega (arith, low_tiles _ (domain _ c.before.before.before.before.requires.0), c.before.before.before.before.requires.1.min_tiles)
 
 returns-2 : tie.Need-returns-2
 unfolding row_limit row_area
 returns-2 c =
     let t = c.before.before.before.before in
     let s = t.before in
-    let q : (s.args.k.min_log2_tiles + 1) % 32 ≡ min_log2_tiles s.args.a + 1 = omega (arith, s.requires.1.min_tiles, low-tiles _ (domain _ s.requires.0)) in
+    let q : (s.args.k.min_log2_tiles + 1) % 32 ≡ min_log2_tiles s.args.a + 1 = omega (arith, s.requires.1.min_tiles, low_tiles _ (domain _ s.requires.0)) in
     c.max-height2.ensures
     ∙ ap (λ (x : ℕ). max 1 (x / s.args.widest-tile.0))
     (ap₂ (λ (x y : ℕ). x / 2 ^ y) (area t) q

@@ -5,8 +5,8 @@ use Prim.Native.Nat.{◌-◌, ◌<◌}
 use native.Mathlib.Omega.{arith}
 use borrow.Author.Tests.{ltb-true, ltb-false}
 use lib.ListN.{length, drop, length-set}
-use Rattle.flat.proofs.Room.{cleared-front, cleared-rest}
-use Rattle.tile_info.proofs.Walk.{Walked, walk_start, walk-next, all_done, all-used}
+use Rattle.flat.proofs.Room.{cleared_front, cleared_rest}
+use Rattle.tile_info.proofs.Walk.{Walked, walk_start, walk_next, all_done, all_used}
 use borrow.Author.Rules.{rules}
 use Rattle.tile_info.proofs.nonuniform.read_sizes.Statement.{statement}
 use Rattle.tile_info.proofs.nonuniform.read_sizes.Tie as tie
@@ -29,7 +29,7 @@ loop-holds : tie.Need-loop-init invariant-loop decreases-loop
 loop-holds c =
     let s = start c in
     let clear = c.before.before.before.before.clear-starts in
-    (walk_start _ _ _ _ _ _ _ (cleared-front _ s.args.starts.now s.pre.0 clear.ensures) c.before.none.ensures c.none2.ensures, refl)
+    (walk_start _ _ _ _ _ _ _ (cleared_front _ s.args.starts.now s.pre.0 clear.ensures) c.before.none.ensures c.none2.ensures, refl)
 
 slice-write-starts : tie.Need-slice-write-starts invariant-loop decreases-loop
 slice-write-starts c =
@@ -53,7 +53,7 @@ loop-again c =
     let l = b.before.loop in
     let s = start b.before.before in
     let n : l.tiles < 64 = omega (arith, ltb-true) in (
-      walk-next _ _ _ _ _ l.invariant.0 (less b t.if1.true) n s.pre.1 s.pre.2
+      walk_next _ _ _ _ _ l.invariant.0 (less b t.if1.true) n s.pre.1 s.pre.2
           m.minus.ensures r.read-size.ensures.0 r.read-size.ensures.1 (rw p.number.ensures refl) c.before.most.ensures c.plus.ensures,
       length-set l.starts l.tiles _ ∙ l.invariant.1,
     )
@@ -67,8 +67,8 @@ returns : tie.Need-returns invariant-loop decreases-loop
 returns c =
     let l = c.before.before.before in
     let s = start l.before in
-    rw (cleared-rest _ s.args.starts.now s.pre.0 l.before.before.before.before.before.clear-starts.ensures) at
-    (all-used _ _ _ _ _ _ l.loop.invariant.0 (omega (arith, ltb-false)))
+    rw (cleared_rest _ s.args.starts.now s.pre.0 l.before.before.before.before.before.clear-starts.ensures) at
+    (all_used _ _ _ _ _ _ l.loop.invariant.0 (omega (arith, ltb-false)))
 
 same-length-2 : tie.Need-same-length-2 invariant-loop decreases-loop
 same-length-2 c =
@@ -79,7 +79,7 @@ returns-2 : tie.Need-returns-2 invariant-loop decreases-loop
 returns-2 c =
     let l = c.before.before in
     let s = start l.before in
-    rw (cleared-rest _ s.args.starts.now s.pre.0 l.before.before.before.before.before.clear-starts.ensures) at
+    rw (cleared_rest _ s.args.starts.now s.pre.0 l.before.before.before.before.before.clear-starts.ensures) at
     (all_done _ _ _ _ _ _ l.loop.invariant.0 (ltb-false _ _ (sym c.before.below.ensures ∙ c.if1.false)))
 
 pub read-sizes-spec : {M : Type 1} → statement M

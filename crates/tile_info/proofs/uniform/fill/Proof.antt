@@ -7,7 +7,7 @@ use native.Mathlib.Nat.{mul-le-mul_left, mul-suc, mul-zero}
 use native.Mathlib.Omega.{arith}
 use borrow.Author.Tests.{ltb-true, ltb-false}
 use lib.ListN.{length, set, drop, length-set}
-use Rattle.flat.proofs.Room.{cleared-front, cleared-rest}
+use Rattle.flat.proofs.Room.{cleared_front, cleared_rest}
 use Rattle.tile_layout.proofs.Laws.{times_next, stored, closed}
 use Rattle.tile_layout.specs.Layout.{tabulate, padded}
 use Rattle.superblocks.specs.declared.SeqSb.{SeqSb}
@@ -56,7 +56,7 @@ unfolding tabulate
 loop-holds c =
     let s = start c in
     let clear = c.before.before.before.clear-starts in
-    (omega (arith, c.none.ensures, mul-zero s.args.split.tile.0), omega arith, cleared-front _ s.args.starts.now s.pre.0 clear.ensures, refl)
+    (omega (arith, c.none.ensures, mul-zero s.args.split.tile.0), omega arith, cleared_front _ s.args.starts.now s.pre.0 clear.ensures, refl)
 
 slice-write-starts : tie.Need-slice-write-starts invariant-loop decreases-loop
 slice-write-starts c =
@@ -108,7 +108,7 @@ returns c =
     let q : l.i ≡ s.args.split.tiles.0 = omega (arith, l.invariant.1, ltb-false l.i s.args.split.tiles.0 (sym e.before.has.ensures ∙ e.if1.false)) in
     let v : c.number2.result ≡ s.args.end.0 = omega (arith, c.number2.ensures, s.pre.3) in
     let clear = e.before.before.before.before.before.before.clear-starts in
-    let rest = cleared-rest clear.new.0 s.args.starts.now s.pre.0 clear.ensures in
+    let rest = cleared_rest clear.new.0 s.args.starts.now s.pre.0 clear.ensures in
     ap (set l.starts l.i) v
     ∙ ap (λ (t : List ℕ). set t l.i s.args.end.0) l.invariant.2
     ∙ closed (starts-of s) _ l.i s.args.end.0 (omega (arith, s.pre.1))

@@ -9,7 +9,7 @@ use Rattle.codes.specs.Codes.{plus, run_of}
 use Rattle.getbits.specs.Bits.{bits_at, position, read_bits, look_at}
 use Rattle.getbits.specs.declared.Place.{Place}
 use Rattle.tile_layout.specs.Layout.{read_log2}
-use Rattle.codes.proofs.Word.{count, from, run-behind}
+use Rattle.codes.proofs.Word.{count, from, run_behind}
 use Rattle.tile_info.proofs.uniform.read_log2.Statement.{statement}
 use Rattle.tile_info.proofs.uniform.read_log2.Tie as tie
 
@@ -22,7 +22,7 @@ by_word : (s : List ℕ) (p : Place) (word used least most : ℕ) (w : word ≡ 
     → let n = count 1 (from s (position s p) word w used) in
     read_log2 s (read_bits s p used).next least most ≡ record { value = least + min n (most - least); next = (read_bits s p (used + min (n + 1) (most - least))).next }
 unfolding read_log2
-by_word s p word used least most w h = ap (plus least) (run-behind 1 (omega arith) s p word w (most - least) used h)
+by_word s p word used least most w h = ap (plus least) (run_behind 1 (omega arith) s p word w (most - least) used h)
 
 returns : tie.Need-returns
 unfolding read_log2 run_of

@@ -4,11 +4,11 @@ use Prim.Native.Nat.{ℕ, ◌*◌, ◌%◌, ◌≤◌}
 use native.Mathlib.Nat.{le-mul_of_pos_right}
 use native.Mathlib.Omega.{arith}
 use lib.Pow.{pow_pos}
-use Rattle.tile_layout.proofs.Even.{few-tiles, holds}
+use Rattle.tile_layout.proofs.Even.{few_tiles, holds}
 use Rattle.tile_layout.proofs.Domain.{Along, domain, along}
 use Rattle.tile_layout.specs.Layout.{full_count, total_count, base, count, larger, start_at}
 use Rattle.tile_layout.specs.Limits.{superblocks}
-use Rattle.tile_info.proofs.Coded.{seq-code, multiplied}
+use Rattle.tile_info.proofs.Coded.{seq_code, multiplied}
 use borrow.Author.Rules.{rules}
 use Rattle.tile_info.proofs.uniform.uniform_starts.Statement.{statement}
 use Rattle.tile_info.proofs.uniform.uniform_starts.Tie as tie
@@ -25,7 +25,7 @@ al s = let n = s.requires.1.1 in along s.args.a (domain _ s.requires.0) s.args.n
 few : (s : tie.Start) → count (F s) (T s) s.args.log2 ≤ 64
 few s =
     let x = al s in
-    few-tiles (F s) (T s) s.args.log2 (T s) x.some_full x.full_le x.le_full (omega (arith, x.some_full, x.full_le)) (le-mul_of_pos_right (T s) (pow_pos s.args.log2)) s.requires.1.1.4
+    few_tiles (F s) (T s) s.args.log2 (T s) x.some_full x.full_le x.le_full (omega (arith, x.some_full, x.full_le)) (le-mul_of_pos_right (T s) (pow_pos s.args.log2)) s.requires.1.1.4
 
 -- the split is the definition's
 split : (c : tie.After-even-split) → let s = c.before.before.before.before in let r = c.even-split.result in
@@ -33,7 +33,7 @@ split : (c : tie.After-even-split) → let s = c.before.before.before.before in 
 unfolding full_count
 split c =
     let s = c.before.before.before.before in
-    let code = seq-code s.requires.0 s.requires.1.0 in
+    let code = seq_code s.requires.0 s.requires.1.0 in
     let l : s.args.log2 % 32 ≡ s.args.log2 = omega (arith, s.requires.1.1.4) in
     let f = rw code at c.before.before.full-count.ensures in
     let t = rw code at c.before.seq-count.ensures in
