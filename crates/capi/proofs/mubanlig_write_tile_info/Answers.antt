@@ -1,0 +1,34 @@
+use mathlib.Core.List.{List}
+use mathlib.Core.Bool.{true}
+use mathlib.Core.Path.{◌≡◌, refl, sym, ap, ◌∙◌}
+use Prim.Native.Nat.{ℕ}
+use mir.Facts.{to_z-of_z}
+use borrow.Author.Tests.{not-true, not-false}
+use Rattle.answers.specs.Numbers.{number_of, is_refusal}
+use Rattle.answers.proofs.Numbers.{refused_unless_0}
+use Rattle.getbits.specs.Chain.{then}
+use Rattle.getbits.proofs.Chain.{taken, left}
+use Rattle.layout_writing.specs.declared.Written.{Written}
+use Rattle.capi.specs.Calls.{lent_write}
+use Rattle.capi.proofs.mubanlig_write_tile_info.Goals as goal
+
+pub returns-then-not-has_room : goal.returns-then-not-has_room
+unfolding lent_write
+returns-then-not-has_room c =
+    let lacks = sym c.has_room.ensures ∙ not-true c.has_room.result c.if-not-has_room.true in
+    (sym (left _ _ _ lacks), ((λ _. refl), λ _. refl))
+
+pub returns : goal.returns
+unfolding lent_write then
+returns c =
+    let k = c in
+    let t = k in
+    let e = t in
+    let s = e in
+    let has = sym e.has_room.ensures ∙ not-false e.has_room.result e.if-not-has_room.false in
+    let f = s.ranges in
+    let done = rw (t.tile_info_of-t.ensures, to_z-of_z f.sbmul, to_z-of_z f.w, to_z-of_z f.h) at k.write_tile_info-r.ensures.out_after in
+    let refused : (c.number.result ≡ 0 → ⊥) → is_refusal k.write_tile_info-r.result.answer ≡ true = λ h. refused_unless_0 k.write_tile_info-r.result.answer (λ n. h (c.number.ensures ∙ n)) in (
+      rw c.number.ensures (ap (λ (z : Written × List ℕ). (number_of z.0.answer, z.0.bits, z.1)) done ∙ sym (taken _ _ _ has)),
+      ((λ h. (k.write_tile_info-r.ensures.writing.unwritten (refused h)).1), λ h. (k.write_tile_info-r.ensures.writing.unwritten (refused h)).0),
+    )

@@ -1,0 +1,11 @@
+use Rattle.std.proofs.Common.{ap, ◌∙◌, to_z-of_z}
+use Rattle.getbits.proofs.Widths.{back}
+use Rattle.getbits.specs.declared.Signed.{Signed}
+use Rattle.capi_bits.specs.Numbers.{lent_signed}
+use Rattle.capi_bits.proofs.mubanlig_get_sbits.Goals as goal
+
+pub returns : goal.returns
+returns c =
+    let k = c in
+    let start = k in
+    rw (back c.hand_back_signed.result c.hand_back_signed.type-inv) (c.hand_back_signed.ensures ∙ ap (λ (x : Signed). lent_signed x start.args.error.now) (rw (to_z-of_z start.ranges.n, k.place_of.ensures) at k.get_sbits-r.ensures))

@@ -1,0 +1,63 @@
+use Rattle.std.proofs.Common.{◌≡◌, ℕ, ◌^◌, ◌<◌, ◌≤◌, ltb, leb, ap, ◌∙◌, arith, ltb-true, leb-true}
+use Rattle.codes.proofs.Callers.{length_is}
+use Rattle.codes.specs.Codes.{bit_length}
+use Rattle.getbits.proofs.Chain.{both}
+use Rattle.getbits.specs.Bits.{look_at}
+use Rattle.getbits.specs.declared.Number.{Number}
+use Rattle.getbits.specs.declared.Place.{Place}
+use Rattle.lent.specs.Lent.{place_of}
+use Rattle.capi_bits.specs.Numbers.{lent_number}
+use Rattle.capi_bits.proofs.Ahead.{uniform_short, uniform_long}
+use Rattle.capi_bits.proofs.mubanlig_get_uniform.Goals as goal
+
+known : (c : goal.Then-max) → (let max = c.args.max in (2 ≤ max) × (max < 2 ^ 31))
+known c =
+    let max = c.args.max in
+    let t = both (leb 2 max) (ltb max (2 ^ 31)) c.if-max.true in
+    (leb-true 2 max t.0, ltb-true max (2 ^ 31) t.1)
+
+-- the bits are there and have been looked at
+module _ (c : goal.After-look_ahead-w) where
+  abbrev forms : goal.After-uniform_forms-f
+  forms = c
+
+  abbrev start : goal.Start
+  start = forms.before.before.before.before.before
+
+  abbrev max : ℕ
+  max = start.args.max
+
+  bounds : (2 ≤ max) × (max < 2 ^ 31)
+  bounds = known forms.before.before
+
+  bits : forms.uniform-forms.result.bits ≡ bit_length max
+  bits = forms.uniform-forms.ensures.0
+
+  looked : c.look_ahead-w.result ≡ look_at start.args.s.now (place_of start.args.position.now 0) (bit_length max)
+  looked =
+      c.look_ahead-w.ensures
+      ∙ ap (λ (x : Place). look_at start.args.s.now x forms.uniform-forms.result.bits) c.place_of.ensures
+      ∙ ap (look_at start.args.s.now (place_of start.args.position.now 0)) bits
+
+pub overflow_sub-l : goal.overflow_sub-l
+overflow_sub-l c = omega (arith, bits c, (length_is (max c) (omega (arith, (bounds c).0)) (bounds c).1).0)
+
+pub returns-then-w-m : goal.returns-then-w-m
+returns-then-w-m c =
+    let k = c in
+    let a = (start k).args in
+    uniform_short a.s.now a.position.now a.error.now a.max (bounds k).0 (bounds k).1 (omega arith)
+    k.look_ahead-w.result (looked k) (rw (forms k).uniform-forms.ensures.1 at c.if-w-m.true) (rw (bits k) at c.wrapping_add_usize.ensures)
+
+pub returns-then-at-s : goal.returns-then-at-s
+returns-then-at-s c =
+    let k = c in
+    let a = (start k).args in
+    rw (forms k).uniform-forms.ensures.1 (uniform_long a.s.now a.position.now a.error.now a.max (bounds k).0 (bounds k).1 (omega arith)
+    k.look_ahead-w.result (looked k) (omega (arith, (forms k).uniform-forms.ensures.1)) (rw (bits k) at c.wrapping_add_usize-then-at-s.ensures))
+
+pub returns : goal.returns
+returns c =
+    let k = c in
+    let start = k in
+    c.hand_back.ensures ∙ ap (λ (x : Number). lent_number x start.args.error.now) (rw k.place_of-2.ensures at k.get_uniform-r.ensures)

@@ -1,0 +1,116 @@
+use mathlib.Core.Bool.{Bool, true, ◌&&◌}
+use mathlib.Core.Path.{◌≡◌, refl, sym, ap, ◌∙◌}
+use borrow.Author.Tests.{not-true, not-false}
+use mir.Facts.{to_z-of_z}
+use Rattle.answers.proofs.Numbers.{accepted_by_0}
+use Rattle.answers.specs.declared.Answer.TheVariants.{WrongArguments, ShortBuffer}
+use Rattle.getbits.specs.Bits.{settled}
+use Rattle.getbits.proofs.Chain.{contrary, through, taken, left, both_hold}
+use Rattle.getbits.specs.declared.Place.{Place}
+use Rattle.lent.specs.Lent.{place_of}
+use Rattle.frame_layout.specs.Frame.{parse_tile_info_frmhdr}
+use Rattle.frame_layout.specs.declared.FrameHeader.{FrameHeader}
+use Rattle.frame_layout.specs.declared.SeqLayout.{SeqLayout}
+use Rattle.flat.specs.Layout.{Buffers, buffers, has_room}
+use Rattle.lent_tiles.specs.Calls.{is_known, frame_given, seq_given, lent_frames}
+use Rattle.lent.proofs.Calls.{row, triple, first_fails, second_fails}
+use Rattle.lent_tiles.proofs.Left.{frames_short, code_kept, frame_kept, frame-into-handed, demand3_left}
+use Rattle.capi_frame.proofs.mubanlig_parse_tile_info_frmhdr.Goals as goal
+
+-- the buffers lent, the records in them, and the place
+abbrev own : goal.Start → Buffers
+own s = buffers s.args.info.now s.args.col-start-sb.now s.args.row-start-sb.now
+
+abbrev theirs : goal.Start → Buffers
+theirs s = buffers s.args.seq-info.now s.args.seq-col-start-sb.now s.args.seq-row-start-sb.now
+
+abbrev header : goal.Start → FrameHeader
+header s = frame_given s.args.frame-type s.args.width s.args.height s.args.sb128.now (own s)
+
+abbrev sequence : goal.Start → SeqLayout
+sequence s =
+    seq_given s.args.seq-sb128 s.args.max-width s.args.max-height s.args.level s.args.tier s.args.present (theirs s)
+
+abbrev place : goal.Start → Place
+place s = place_of s.args.position.now s.args.error.now
+
+abbrev known-type : goal.Start → Bool
+known-type s = is_known s.args.frame-type s.args.present
+
+-- the buffers have room
+roomy : (k : goal.Else-not-has_room-2) → has_room (own k) && has_room (theirs k) ≡ true
+roomy k =
+    let e = k in
+    both_hold (sym e.has_room.ensures ∙ not-false e.has_room.result e.if-not-has_room.false)
+    (sym k.has_room-2.ensures ∙ not-false k.has_room-2.result k.if-not-has_room-2.false)
+
+pub returns-then-not-has_room : goal.returns-then-not-has_room
+returns-then-not-has_room c =
+    let i = c in
+    let s = i in
+    let a = s.args in
+    let lacks = sym i.has_room.ensures ∙ not-true i.has_room.result i.if-not-has_room.true in
+    let fails = first_fails _ (has_room (theirs s)) lacks in
+    (frames_short a.s.now a.position.now a.error.now c.settle_place.ensures _ a.sb128.now (own s) (theirs s) (known-type s) fails, (λ _. refl, (λ _. refl, (λ _. refl, (λ _. refl, (λ h _. contrary h fails, λ h. contrary refl (accepted_by_0 ShortBuffer h)))))))
+
+pub returns-then-not-has_room-2 : goal.returns-then-not-has_room-2
+returns-then-not-has_room-2 c =
+    let i = c in
+    let s = i in
+    let a = s.args in
+    let lacks = sym i.has_room-2.ensures ∙ not-true i.has_room-2.result i.if-not-has_room-2.true in
+    let fails = second_fails (has_room (own s)) _ lacks in
+    (frames_short a.s.now a.position.now a.error.now c.settle_place-then-not-has_room-2.ensures _ a.sb128.now (own s) (theirs s) (known-type s) fails, (λ _. refl, (λ _. refl, (λ _. refl, (λ _. refl, (λ h _. contrary h fails, λ h. contrary refl (accepted_by_0 ShortBuffer h)))))))
+
+pub returns-then-not-is_known : goal.returns-then-not-is_known
+unfolding lent_frames
+returns-then-not-is_known c =
+    let b = c in
+    let i = b in
+    let k = i in
+    let s = k in
+    let unknown = sym i.is_Known.ensures ∙ not-true i.is_Known.result b.if-not-is_known.true in (
+      triple (row WrongArguments (settled s.args.s.now (place s)) s.args.error.now refl c.settle_place-then-not-is_known.ensures) refl refl ∙ sym (taken _ _ _ (roomy k) ∙ left _ _ _ unknown),
+      (λ _. refl, (λ _. refl, (λ _. refl, (λ _. refl, (λ _ h. contrary h unknown, λ h. contrary refl (accepted_by_0 WrongArguments h)))))),
+    )
+
+pub returns : goal.returns
+unfolding lent_frames
+returns c =
+    let k = c in
+    let n = k in
+    let o = n in
+    let p = o in
+    let e = p in
+    let g = e in
+    let x = g in
+    let s = x in
+    let a = s.args in
+    let f = s.ranges in
+    let b = own s in
+    let h = header s in
+    let q = sequence s in
+    let has = roomy x in
+    let known = sym g.is_Known.ensures ∙ not-false g.is_Known.result e.if-not-is_known.false in
+    let sized = rw (to_z-of_z f.width, to_z-of_z f.height, to_z-of_z f.max-width, to_z-of_z f.max-height) at k.frame_layout_into-r.ensures.after_after in
+    let into = rw (p.place_of-p.ensures, o.frame_type_of.ensures, n.present_of.ensures) at sized in
+    let promised-sized = rw (to_z-of_z f.width, to_z-of_z f.height, to_z-of_z f.max-width, to_z-of_z f.max-height) at (k.frame_layout_into-r.ensures.fact.1 has) in
+    let promised = rw (p.place_of-p.ensures, o.frame_type_of.ensures, n.present_of.ensures) at promised-sized in
+    let z = parse_tile_info_frmhdr a.s.now (place s) h q in
+    let back = frame-into-handed a.s.now (place s) h q b (theirs s) has into a.error.now c.number.ensures c.put_place.ensures in
+    let kept = frame_kept z a.error.now a.sb128.now b back in (
+      back ∙ sym (taken _ _ _ has ∙ taken _ _ _ known ∙ through _ _ refl),
+      (
+        code_kept z a.error.now a.sb128.now b back,
+        (
+          λ n. ap (λ (b : Buffers). b.bytes) (kept n),
+          (
+            λ n. ap (λ (b : Buffers). b.col_starts_lem) (kept n),
+            (
+              λ n. ap (λ (b : Buffers). b.row_starts_lem) (kept n),
+              (λ _ _ d f. demand3_left _ _ _ c.number.ensures (λ _. refl) (promised.fresh d f), λ n. promised.over.cleared (accepted_by_0 k.frame_layout_into-r.result.answer (sym c.number.ensures ∙ n))),
+            ),
+          ),
+        ),
+      ),
+    )

@@ -1,0 +1,23 @@
+use mathlib.Core.Path.{ap, ◌∙◌}
+use Prim.Native.Nat.{ℕ, ◌+◌, min}
+use native.Mathlib.Omega.{arith}
+use lib.Count.{count_leading_zeros}
+use Rattle.getbits.proofs.Callers.{as_read}
+use Rattle.codes.specs.Codes.{run_of}
+use Rattle.codes.proofs.Runs.{run_word}
+use Rattle.codes.proofs.run.Goals as goal
+
+pub returns-then-most-eq0 : goal.returns-then-most-eq0
+unfolding run_of
+returns-then-most-eq0 c = rw c.if-most-eq0.true
+
+pub returns : goal.returns
+returns c =
+    let u = c in
+    let z = u in
+    let k = z in
+    let a = k.args in
+    let n = u.umin-n.result in
+    run_word a.bit a.most a.s.now a.p (omega arith) (omega arith) (omega arith) k.look-w.ensures
+    (u.umin-n.ensures ∙ ap (λ (x : ℕ). min (count_leading_zeros 32 x) a.most) z.as_zeros.ensures)
+    (as_read a.s.now a.p (min (n + 1) a.most) (omega arith) (rw c.umin.ensures at c.read_wide-r.ensures))

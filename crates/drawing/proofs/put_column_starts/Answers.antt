@@ -1,0 +1,45 @@
+use mathlib.Core.Path.{◌≡◌}
+use Prim.Native.Nat.{◌-◌, ◌*◌}
+use native.Mathlib.Omega.{arith}
+use borrow.Author.Rules.{rules}
+use lib.ListN.{get_or, take, drop}
+use Rattle.drawing.specs.Picture.{above_text}
+use Rattle.drawing.specs.View.{column_of}
+use Rattle.rectangles.proofs.Each.{each_more}
+use Rattle.rectangles.specs.Rectangles.{each}
+use Rattle.text.proofs.Puts.{none, also, within, kept}
+use Rattle.drawing.proofs.put_column_starts.Goals as goal
+
+pub loop-i-init : goal.loop-i-init
+unfolding each
+loop-i-init c = (search rules, none _ _)
+
+pub overflow_mul-i : goal.overflow_mul-i
+overflow_mul-i c = omega (arith, c.requires.1)
+
+pub rect_at-requires : goal.rect_at-requires
+rect_at-requires c = omega (arith, c.requires.2, c.loop-i-test.true)
+
+pub column-requires : goal.column-requires
+column-requires c = (c.requires.0, omega (arith, c.requires.1, c.loop-i-test.true))
+
+pub put_above-next-requires : goal.put_above-next-requires
+put_above-next-requires c = c.requires.0.unit
+
+pub loop-i-preserved : goal.loop-i-preserved
+loop-i-preserved c =
+    let l = c in
+    let a = c.args in (
+      search rules,
+      rw (← each_more (λ k. above_text a.v.unit (column_of a.v k (take 4 (drop (4 * k) a.xs.now))) (get_or a.starts.now k 0)) l.loop-i.i)
+          (within (omega arith) (also l.loop-i.invariant.1 (rw (c.start_at_lem.ensures, c.column.ensures.0, c.rect_at.ensures) at c.put_above-next.ensures))),
+    )
+
+pub shape_of-out : goal.shape_of-out
+shape_of-out c = kept c.loop-i.invariant.1
+
+pub returns : goal.returns
+returns c =
+    let l = c in
+    let e : l.loop-i.i ≡ c.args.cols = omega arith in
+    rw (← e) (within (omega (arith, c.requires.1)) l.loop-i.invariant.1)

@@ -1,0 +1,35 @@
+use mathlib.Core.Path.{refl}
+use Prim.Native.Nat.{◌-◌}
+use native.Mathlib.Omega.{arith}
+use borrow.Author.Rules.{rules}
+use lib.Dec.{eqb}
+use lib.ListN.{length, get_or}
+use lib.Seq.{take_all}
+use Rattle.drawing.proofs.Marked.{marked_more, longer}
+use Rattle.text.proofs.Filled.{marks, marks_more}
+use Rattle.text.proofs.Puts.{none, also, within, kept}
+use Rattle.text.specs.Text.{mark, filled}
+use Rattle.drawing.proofs.put_marked.Goals as goal
+
+pub loop-i-init : goal.loop-i-init
+unfolding filled marks
+loop-i-init c = ((search rules, search rules), refl, within (omega arith) (none _ _))
+
+pub loop-i-preserved : goal.loop-i-preserved
+loop-i-preserved c =
+    let l = c in
+    let s = c in
+    let t = s.args.template.now in
+    let xs = s.args.xs.now in
+    let more = c.loop-i-test.true in
+    let size = longer (eqb (get_or t l.loop-i.i 0) mark) l.loop-i.k (length xs) in (
+      (search rules, omega (arith, l.loop-i.invariant.0.1, c.used_by-k.ensures.1)),
+      omega (arith, marks_more t l.loop-i.i more, c.used_by-k.ensures.0, l.loop-i.invariant.1),
+      rw (marked_more t xs l.loop-i.i l.loop-i.k more l.loop-i.invariant.1, c.used_by-k.ensures.0) (within (omega (arith, size)) (also l.loop-i.invariant.2 c.put_filler-next.ensures)),
+    )
+
+pub returns : goal.returns
+returns c = within (omega (arith, c.loop-i.invariant.0.0)) (rw (take_all _ _ c.loop-i-test.false) at c.loop-i.invariant.2)
+
+pub shape_of-out : goal.shape_of-out
+shape_of-out c = kept c.loop-i.invariant.2

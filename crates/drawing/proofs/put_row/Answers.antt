@@ -1,0 +1,49 @@
+use mathlib.Core.Path.{◌≡◌}
+use Prim.Native.Nat.{◌+◌, ◌-◌, ◌*◌, ◌≤◌}
+use native.Mathlib.Nat.{mul-le-mul}
+use native.Mathlib.Omega.{arith}
+use borrow.Author.Rules.{rules}
+use Rattle.drawing.specs.Picture.{tile_text}
+use Rattle.drawing.specs.View.{rect_of}
+use Rattle.rectangles.proofs.Each.{each_more}
+use Rattle.rectangles.specs.Rectangles.{each}
+use Rattle.text.proofs.Puts.{none, also, within, kept}
+use Rattle.drawing.proofs.put_row.Goals as goal
+
+-- the tiles before the row
+before : (s : goal.Start invariant-loop decreases-loop) → s.args.j * s.args.cols ≤ 4096
+before s = let j : s.args.j ≤ 64 = omega (arith, s.requires.2) in let n : s.args.cols ≤ 64 = omega (arith, s.requires.1) in mul-le-mul j n
+
+pub loop-i-init : goal.loop-i-init
+unfolding each
+loop-i-init c = (search rules, none _ _)
+
+pub overflow_mul-k : goal.overflow_mul-k
+overflow_mul-k c = omega (arith, before c)
+
+pub overflow_add-k : goal.overflow_add-k
+overflow_add-k c = omega (arith, before c, c.requires.1)
+
+pub overflow_mul-k-in-loop-i : goal.overflow_mul-k-in-loop-i
+overflow_mul-k-in-loop-i c = omega (arith, before c, c.requires.1)
+
+pub rect_at-requires : goal.rect_at-requires
+rect_at-requires c = omega (arith, c.requires.3, c.loop-i-test.true)
+
+pub put_tile-next-requires : goal.put_tile-next-requires
+put_tile-next-requires c = (c.requires.0, omega (arith, c.requires.1, c.loop-i-test.true), c.requires.2)
+
+pub loop-i-preserved : goal.loop-i-preserved
+loop-i-preserved c =
+    let l = c in
+    let a = c.args in
+    (search rules, rw (← each_more (λ k. tile_text a.v k a.j (a.j * a.cols + k) (rect_of a.xs.now a.cols k a.j)) l.loop-i.i) (within (omega arith) (also l.loop-i.invariant.1 (rw c.rect_at.ensures at c.put_tile-next.ensures))))
+
+pub shape_of-out : goal.shape_of-out
+shape_of-out c = kept c.loop-i.invariant.1
+
+pub returns : goal.returns
+returns c =
+    let l = c in
+    let e : l.loop-i.i ≡ c.args.cols = omega arith in
+    within (omega (arith, c.requires.1)) (rw e at l.loop-i.invariant.1)

@@ -1,0 +1,42 @@
+use mathlib.Core.Path.{◌≡◌}
+use Prim.Native.Nat.{◌+◌, ◌-◌, ◌*◌, ◌<◌}
+use native.Mathlib.Nat.{add-mul, mul-le-mul_right}
+use native.Mathlib.Omega.{arith}
+use borrow.Author.Rules.{rules}
+use Rattle.drawing.specs.Picture.{tile_text}
+use Rattle.drawing.specs.View.{rect_of}
+use Rattle.rectangles.proofs.Each.{each_more}
+use Rattle.rectangles.specs.Rectangles.{each}
+use Rattle.text.proofs.Puts.{none, also, within, kept}
+use Rattle.drawing.proofs.put_tiles.Goals as goal
+
+pub loop-j-init : goal.loop-j-init
+unfolding each
+loop-j-init c = (search rules, none _ _)
+
+pub put_row-next-requires : goal.put_row-next-requires
+put_row-next-requires c =
+    let l = c in
+    let s = c in
+    let a = s.args in
+    let more : l.loop-j.j < a.rows = c.loop-j-test.true in (
+      s.requires.0,
+      s.requires.1,
+      omega (arith, s.requires.2),
+      omega (arith, s.requires.3, mul-le-mul_right {m = l.loop-j.j + 1} {n = a.rows} a.cols (omega arith), add-mul l.loop-j.j 1 a.cols),
+    )
+
+pub loop-j-preserved : goal.loop-j-preserved
+loop-j-preserved c =
+    let l = c in
+    let a = c.args in
+    (search rules, rw (← each_more (λ y. each a.cols λ x. tile_text a.v x y (y * a.cols + x) (rect_of a.xs.now a.cols x y)) l.loop-j.j) (within (omega arith) (also l.loop-j.invariant.1 c.put_row-next.ensures)))
+
+pub shape_of-out : goal.shape_of-out
+shape_of-out c = kept c.loop-j.invariant.1
+
+pub returns : goal.returns
+returns c =
+    let l = c in
+    let e : l.loop-j.j ≡ c.args.rows = omega arith in
+    rw (← e) (within (omega (arith, c.requires.2)) l.loop-j.invariant.1)

@@ -1,0 +1,15 @@
+use mathlib.Core.Path.{refl, sym, ◌∙◌}
+use Rattle.getbits.proofs.Chain.{through}
+use Rattle.film_grain.specs.Coeffs.{coeffs_if}
+use Rattle.film_grain.proofs.coeffs.coeffs_if.Goals as goal
+
+pub returns-then-cond : goal.returns-then-cond
+unfolding coeffs_if
+returns-then-cond c =
+    let r = c in
+    let b = r in
+    rw b.if-cond.true (sym (through _ _ b.get_small-b.ensures.is ∙ sym r.read_coeffs.ensures))
+
+pub returns : goal.returns
+unfolding coeffs_if
+returns c = rw (c.if-cond.false, c.requires.1) refl

@@ -1,0 +1,145 @@
+use mathlib.Core.List.{List}
+use mathlib.Core.Path.{◌≡◌, sym, ap, ◌∙◌}
+use Prim.Native.Nat.{ℕ, suc, ◌+◌, ◌-◌, ◌*◌, ◌/◌, ◌%◌, ◌^◌, ◌<◌, ◌≤◌}
+use native.Mathlib.Nat.{mod-lt, pow-suc}
+use native.Mathlib.Omega.{arith}
+use borrow.Author.Rules.{rules}
+use lib.IntN.{ℤ, pos, ◌-ℤ◌}
+use lib.ListN.{set, length-set}
+use lib.Pow.{pow_mono, pow_pos}
+use mir.Syntax.{w8}
+use mir.Val.{to_z, of_z}
+use Rattle.getbits.specs.Bits.{bits_at, bit_count, position, place_at, get_bits}
+use Rattle.getbits.specs.declared.Place.{Place}
+use Rattle.getbits.proofs.Callers.{power_below}
+use Rattle.getbits.proofs.Chain.{through}
+use Rattle.getbits.proofs.Fields.{bits_lt}
+use Rattle.getbits.proofs.Parts.{look_bits, skip_there, first_bits, first_read, last_read}
+use Rattle.film_grain.specs.Coeffs.{coeff}
+use Rattle.film_grain.specs.Inner.{lent_coeffs}
+use Rattle.film_grain.proofs.Numbers.{less_read}
+use Rattle.film_grain.proofs.coeffs.four_coeffs.Goals as goal
+
+-- a coefficient, from its bits
+put : (s : List ℕ) (n i v : ℕ) (l : List ℤ) (p q : Place) → get_bits s p (pos n) ≡ record { value = v; next = q }
+    → coeff s n i (lent_coeffs l p) ≡ lent_coeffs (set l i (pos v -ℤ pos (2 ^ (n - 1)))) q
+unfolding coeff
+put s n i v l p q e = through _ _ (sym (less_read s p n (2 ^ (n - 1)) e))
+
+-- the four, side by side
+module _ (s : List ℕ) (p : Place) (n w : ℕ) (small : n ≤ 8) (room : position s p + 4 * n ≤ bit_count s) (e : w ≡ bits_at s (position s p) (4 * n)) where
+  -- m bits behind the place, and the others of w
+  split : (m r : ℕ) → 4 * n ≡ m + r → w ≡ bits_at s (position s p) (m + r)
+  split m r f = e ∙ ap (bits_at s (position s p)) f
+
+  first_of : get_bits s p (pos n) ≡ record { value = w / 2 ^ (3 * n); next = place_at (position s p + n) p.error }
+  first_of = first_read s p n (3 * n) w (omega arith) (split n (3 * n) (omega arith)) (omega arith)
+
+  second_of : get_bits s (place_at (position s p + n) p.error) (pos n) ≡ record { value = w / 2 ^ (2 * n) % 2 ^ n; next = place_at (position s p + (n + n)) p.error }
+  second_of = last_read s p n n (w / 2 ^ (2 * n)) (omega arith) (first_bits s p (n + n) (2 * n) w (omega arith) (split (n + n) (2 * n) (omega arith))) (omega arith)
+
+  third_of : get_bits s (place_at (position s p + (n + n)) p.error) (pos n) ≡ record { value = w / 2 ^ n % 2 ^ n; next = place_at (position s p + (n + n + n)) p.error }
+  third_of = last_read s p (n + n) n (w / 2 ^ n) (omega arith) (first_bits s p (n + n + n) n w (omega arith) (split (n + n + n) n (omega arith))) (omega arith)
+
+  fourth_of : get_bits s (place_at (position s p + (n + n + n)) p.error) (pos n) ≡ record { value = w % 2 ^ n; next = place_at (position s p + 4 * n) p.error }
+  fourth_of =
+      let f : n + n + n + n ≡ 4 * n = omega arith in
+      last_read s p (n + n + n) n w (omega arith) (split (n + n + n) n (omega arith)) (omega arith) ∙ rw f
+
+  four : (i : ℕ) (l : List ℤ) → let h = pos (2 ^ (n - 1)) in
+      lent_coeffs (set (set (set (set l i (pos (w / 2 ^ (3 * n)) -ℤ h)) (i + 1) (pos (w / 2 ^ (2 * n) % 2 ^ n) -ℤ h)) (i + 2) (pos (w / 2 ^ n % 2 ^ n) -ℤ h)) (i + 3) (pos (w % 2 ^ n) -ℤ h))
+      (place_at (position s p + 4 * n) p.error)
+      ≡ coeff s n (i + 3) (coeff s n (i + 2) (coeff s n (i + 1) (coeff s n i (lent_coeffs l p))))
+  four i l =
+      sym (ap (λ x. coeff s n (i + 3) (coeff s n (i + 2) (coeff s n (i + 1) x))) (put s n i _ l p _ first_of)
+      ∙ ap (λ x. coeff s n (i + 3) (coeff s n (i + 2) x)) (put s n (i + 1) _ _ _ _ second_of)
+      ∙ ap (coeff s n (i + 3)) (put s n (i + 2) _ _ _ _ third_of)
+      ∙ put s n (i + 3) _ _ _ _ fourth_of)
+
+  -- the first is below 2 ^ n too
+  first_lt : w / 2 ^ (3 * n) < 2 ^ n
+  first_lt = rw (first_bits s p n (3 * n) w (omega arith) (split n (3 * n) (omega arith))) (bits_lt s (position s p) n)
+
+-- half the range
+twice : (n : ℕ) → 1 ≤ n → 2 ^ n ≡ 2 * 2 ^ (n - 1)
+twice n h =
+    let e : n ≡ suc (n - 1) = omega arith in
+    let f : 2 ^ n ≡ 2 ^ (n - 1) * 2 = ap (λ (m : ℕ). 2 ^ m) e ∙ pow-suc 2 (n - 1) in
+    omega (arith, f)
+
+range : (s : goal.Start) → 2 * s.args.half ≡ 2 ^ s.args.coef_bits
+range s = omega (arith, twice s.args.coef_bits s.requires.0, s.requires.2)
+
+small_half : (s : goal.Start) → s.args.half ≤ 128
+small_half s = omega (arith, s.requires.2, pow_mono {i = s.args.coef_bits - 1} {j = 7} (omega (arith, s.requires.1)))
+
+all_bits_lem : (c : goal.After-look_ahead-w) → let a = c.args in c.look_ahead-w.result ≡ bits_at a.s.now (position a.s.now a.p) (4 * a.coef_bits)
+all_bits_lem c = let s = c in look_bits s.args.s.now s.args.p (4 * s.args.coef_bits) (omega (arith, s.requires.1)) c.look_ahead-w.ensures
+
+low : (c : goal.After-power-low) → c.power-low.result ≡ 2 ^ c.args.coef_bits
+low c = power_below (omega (arith, c.requires.1)) c.power-low.ensures.0
+
+-- the rest of a division
+rest : (c : goal.After-power-low) (x : ℕ) → x % c.power-low.result < 2 * c.args.half
+rest c x = let s = c in rw (low c) (omega (arith, mod-lt x (pow_pos s.args.coef_bits), range s))
+
+-- the numbers, read back from their bits
+back : (c : goal.After-centred) → to_z w8 (of_z w8 c.centred.result) ≡ c.centred.result
+back c = search rules
+
+back_2 : (c : goal.After-centred-2) → to_z w8 (of_z w8 c.centred-2.result) ≡ c.centred-2.result
+back_2 c = search rules
+
+back_3 : (c : goal.After-centred-3) → to_z w8 (of_z w8 c.centred-3.result) ≡ c.centred-3.result
+back_3 c = search rules
+
+back_4 : (c : goal.After-centred-4) → to_z w8 (of_z w8 c.centred-4.result) ≡ c.centred-4.result
+back_4 c = search rules
+
+-- a coefficient out of such a rest
+centred_rest : (c : goal.After-power-low) (x : ℕ) {r : ℤ} → let a = c.args in
+    r ≡ pos (x % c.power-low.result) -ℤ pos a.half → r ≡ pos (x % 2 ^ a.coef_bits) -ℤ pos (2 ^ (a.coef_bits - 1))
+centred_rest c x e =
+    let s = c in
+    e ∙ ap (λ (m : ℕ). pos (x % m) -ℤ pos s.args.half) (low c) ∙ ap (λ (h : ℕ). pos (x % 2 ^ s.args.coef_bits) -ℤ pos h) s.requires.2
+
+pub centred-requires : goal.centred-requires
+centred-requires c =
+    let s = c in
+    let a = s.args in
+    (omega (arith, first_lt a.s.now a.p a.coef_bits c.look_ahead-w.result s.requires.1 s.requires.4 (all_bits_lem c), range s), small_half s)
+
+pub centred-requires-2 : goal.centred-requires-2
+centred-requires-2 c = let k = c in (rest k _, small_half k)
+
+pub bounds-coeffs-i-2 : goal.bounds-coeffs-i-2
+bounds-coeffs-i-2 c = simp length-set (omega (arith, c.requires.3))
+
+pub centred-requires-3 : goal.centred-requires-3
+centred-requires-3 c = let k = c in (rest k _, small_half k)
+
+pub bounds-coeffs-i-3 : goal.bounds-coeffs-i-3
+bounds-coeffs-i-3 c = simp length-set (omega (arith, c.requires.3))
+
+pub centred-requires-4 : goal.centred-requires-4
+centred-requires-4 c = let k = c in (rest k _, small_half k)
+
+pub bounds-coeffs-i-4 : goal.bounds-coeffs-i-4
+bounds-coeffs-i-4 c = simp length-set (omega (arith, c.requires.3))
+
+pub returns : goal.returns
+returns c =
+    let k4 = c in
+    let k3 = k4 in
+    let k2 = k3 in
+    let k1 = k2 in
+    let k = k1 in
+    let s = k in
+    let a = s.args in
+    let w = k.look_ahead-w.result in
+    let v1 = k1.centred.ensures ∙ ap (λ (h : ℕ). pos (w / 2 ^ (3 * a.coef_bits)) -ℤ pos h) s.requires.2 in
+    let v2 = centred_rest k (w / 2 ^ (2 * a.coef_bits)) k2.centred-2.ensures in
+    let v3 = centred_rest k (w / 2 ^ a.coef_bits) k3.centred-3.ensures in
+    let v4 = centred_rest k w k4.centred-4.ensures in
+    rw (back k1 ∙ v1, back_2 k2 ∙ v2, back_3 k3 ∙ v3, back_4 k4 ∙ v4, skip_there a.s.now a.p (4 * a.coef_bits) s.requires.4 c.skip.ensures)
+    (four a.s.now a.p a.coef_bits w s.requires.1 s.requires.4 (all_bits_lem k) a.i a.coeffs.now)

@@ -1,0 +1,24 @@
+use Prim.Native.Nat.{◌-◌}
+use lib.IntN.{pos}
+use mir.Syntax.{w16}
+use mir.Facts.{to_z-of_z}
+use Rattle.flat.proofs.Rows.{begun, filled, full}
+use Rattle.flat.proofs.copy.deltas_of.Goals as goal
+
+pub loop-i-init : goal.loop-i-init
+loop-i-init c = begun _ _ _
+
+pub bounds-delta_q-i : goal.bounds-delta_q-i
+bounds-delta_q-i c = c.loop-i-test.true
+
+pub loop-i-preserved : goal.loop-i-preserved
+loop-i-preserved c =
+    let l = c in
+    let a = l.args in
+    filled 16 a.xs.now (pos 0) l.requires l.loop-i.delta_q l.loop-i.i _ c.loop-i-test.true (to_z-of_z {w = w16} (record { sfits = c.delta_q-1.given })) l.loop-i.invariant
+
+pub returns : goal.returns
+returns c =
+    let l = c in
+    let a = l.args in
+    full 16 a.xs.now (pos 0) l.requires l.loop-i.delta_q l.loop-i.i c.loop-i-test.false l.loop-i.invariant

@@ -1,0 +1,22 @@
+use mathlib.Core.Path.{refl}
+use Prim.Native.Nat.{◌-◌}
+use Rattle.flat.proofs.Rows.{begun, filled, full}
+use Rattle.flat.proofs.copy.starts_of.Goals as goal
+
+pub loop-i-init : goal.loop-i-init
+loop-i-init c = begun _ _ _
+
+pub bounds-starts-i : goal.bounds-starts-i
+bounds-starts-i c = c.loop-i-test.true
+
+pub loop-i-preserved : goal.loop-i-preserved
+loop-i-preserved c =
+    let l = c in
+    let a = l.args in
+    filled 65 a.xs.now 0 l.requires l.loop-i.starts l.loop-i.i _ c.loop-i-test.true refl l.loop-i.invariant
+
+pub returns : goal.returns
+returns c =
+    let l = c in
+    let a = l.args in
+    full 65 a.xs.now 0 l.requires l.loop-i.starts l.loop-i.i c.loop-i-test.false l.loop-i.invariant

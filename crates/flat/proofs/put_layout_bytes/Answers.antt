@@ -1,0 +1,56 @@
+use mathlib.Core.Path.{refl, sym, ◌∙◌}
+use mathlib.Core.List.{List, [], ◌∷◌}
+use Prim.Native.Nat.{ℕ}
+use native.Mathlib.Omega.{arith}
+use borrow.Author.Tests.{le-leb}
+use lib.ListN.{length, length-set}
+use Rattle.getbits.proofs.Chain.{taken}
+use Rattle.seq_fields.specs.Fields.{bit_of}
+use Rattle.flat.proofs.Rows.{kept, stored}
+use Rattle.flat.proofs.put_layout_bytes.Goals as goal
+
+abbrev bytes : goal.Start → List ℕ
+bytes s =
+    let a = s.args in
+    bit_of a.uniform
+    ∷ a.min_log2_cols
+    ∷ a.max_log2_cols
+    ∷ a.log2_cols
+    ∷ a.cols
+    ∷ a.min_log2_rows
+    ∷ a.max_log2_rows
+    ∷ a.log2_rows
+    ∷ a.rows
+    ∷ []
+
+pub returns-then-info-lt9 : goal.returns-then-info-lt9
+returns-then-info-lt9 c = kept 9 (bytes c) c.args.info.now c.if-info-lt9.true
+
+pub returns : goal.returns
+returns c =
+    let info = c.args.info.now in
+    stored (bytes c) info 9 refl c.if-info-lt9.false ∙ sym (taken _ _ _ (le-leb 9 (length info) c.if-info-lt9.false))
+
+pub bounds-info-1 : goal.bounds-info-1
+bounds-info-1 c = simp length-set (omega arith)
+
+pub bounds-info-2 : goal.bounds-info-2
+bounds-info-2 c = simp length-set (omega arith)
+
+pub bounds-info-3 : goal.bounds-info-3
+bounds-info-3 c = simp length-set (omega arith)
+
+pub bounds-info-4 : goal.bounds-info-4
+bounds-info-4 c = simp length-set (omega arith)
+
+pub bounds-info-5 : goal.bounds-info-5
+bounds-info-5 c = simp length-set (omega arith)
+
+pub bounds-info-6 : goal.bounds-info-6
+bounds-info-6 c = simp length-set (omega arith)
+
+pub bounds-info-7 : goal.bounds-info-7
+bounds-info-7 c = simp length-set (omega arith)
+
+pub bounds-info-8 : goal.bounds-info-8
+bounds-info-8 c = simp length-set (omega arith)

@@ -1,0 +1,29 @@
+use Prim.Native.Nat.{◌-◌}
+use native.Mathlib.Omega.{arith}
+use mir.Syntax.{w16}
+use Rattle.flat.proofs.Rows.{begun, widened, wide}
+use Rattle.flat_grain.proofs.put.put_bytes.Goals as goal
+
+pub loop-i-init : goal.loop-i-init
+loop-i-init c = begun _ _ _
+
+pub overflow_cast-out : goal.overflow_cast-out
+overflow_cast-out c = record { sfits = omega (arith, c.shared_slice_known-1.given c.loop-i.i) }
+
+pub bounds-out-at : goal.bounds-out-at
+bounds-out-at c = omega (arith, c.loop-i.invariant.long)
+
+pub loop-i-preserved : goal.loop-i-preserved
+loop-i-preserved c =
+    let l = c in
+    let a = l.args in
+    widened a.out.now a.at a.xs.now w16 l.requires l.loop-i.out l.loop-i.i c.loop-i-test.true (omega (arith, c.shared_slice_known-1.given l.loop-i.i)) l.loop-i.invariant
+
+pub shape_of-out : goal.shape_of-out
+shape_of-out c = c.loop-i.invariant.long
+
+pub returns : goal.returns
+returns c =
+    let l = c in
+    let a = l.args in
+    wide a.out.now a.at a.xs.now l.loop-i.out l.loop-i.i c.loop-i-test.false l.loop-i.invariant

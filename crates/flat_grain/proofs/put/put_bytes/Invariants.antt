@@ -1,0 +1,11 @@
+use mathlib.Core.List.{map}
+use Prim.Native.Nat.{◌-◌}
+use lib.IntN.{pos}
+use lib.ListN.{length}
+use Rattle.flat.proofs.Rows.{Copied}
+use Rattle.flat_grain.proofs.put.put_bytes.Given as goal
+abbrev pub invariant-loop-i : goal.invariant-loop-i
+invariant-loop-i l = Copied l.initial.out l.at (map pos l.xs) l.out l.i
+
+abbrev pub decreases-loop-i : goal.decreases-loop-i
+decreases-loop-i l = length l.xs - l.i

@@ -1,0 +1,32 @@
+use mathlib.Core.Path.{refl}
+use Prim.Native.Nat.{◌-◌}
+use native.Mathlib.Omega.{arith}
+use lib.IntN.{pos}
+use lib.ListN.{length, get_or}
+use mir.Syntax.{w8, w16}
+use Rattle.flat.proofs.Rows.{begun, turned, copied, sign_fits, sign_kept}
+use Rattle.flat_grain.proofs.put.put_coeffs.Goals as goal
+
+pub loop-i-init : goal.loop-i-init
+loop-i-init c = begun _ _ _
+
+pub overflow_cast-out : goal.overflow_cast-out
+overflow_cast-out c = sign_fits w8 w16 (get_or c.args.xs.now c.loop-i.i (pos 0)) tt c.out-1.given
+
+pub bounds-out-at : goal.bounds-out-at
+bounds-out-at c = omega (arith, c.loop-i.invariant.long)
+
+pub loop-i-preserved : goal.loop-i-preserved
+loop-i-preserved c =
+    let l = c in
+    let a = l.args in
+    turned a.out.now a.at a.xs.now l.requires l.loop-i.out l.loop-i.i _ (pos 0) c.loop-i-test.true (sign_kept w8 w16 (get_or a.xs.now l.loop-i.i (pos 0)) tt c.out-1.given) l.loop-i.invariant
+
+pub shape_of-out : goal.shape_of-out
+shape_of-out c = c.loop-i.invariant.long
+
+pub returns : goal.returns
+returns c =
+    let l = c in
+    let a = l.args in
+    copied a.out.now a.at a.xs.now l.loop-i.out l.loop-i.i (length a.xs.now) refl c.loop-i-test.false l.loop-i.invariant

@@ -1,0 +1,17 @@
+use native.Mathlib.Omega.{arith}
+use Rattle.flat.proofs.Rows.{both}
+use Rattle.flat_hdr.specs.Header.{flat_residual}
+use Rattle.flat_hdr.proofs.Rows.{put_in, too_short_lem}
+use Rattle.flat_hdr.proofs.put_residual.Goals as goal
+
+pub returns-then-out-lt146 : goal.returns-then-out-lt146
+returns-then-out-lt146 c = too_short_lem c.if-out-lt146.true
+
+pub returns : goal.returns
+unfolding flat_residual
+returns c =
+    let k3 = c in
+    let k2 = k3 in
+    let k1 = k2 in
+    let room = k1.if-out-lt146.false in
+    put_in room (both (both k1.put_transform-at.ensures k2.put_entropy-at.ensures (omega (arith, room))) k3.put_quant.ensures (omega (arith, room)))

@@ -1,0 +1,35 @@
+use mathlib.Core.Path.{sym, ◌∙◌}
+use Prim.Native.Nat.{◌-◌}
+use native.Mathlib.Omega.{arith}
+use borrow.Author.Tests.{le-leb}
+use lib.IntN.{pos}
+use lib.ListN.{length, replicate, get_or-replicate, length-replicate}
+use Rattle.getbits.proofs.Chain.{taken}
+use Rattle.flat.proofs.Rows.{begun, front_turned, over_front_lem, kept}
+use Rattle.flat_hdr.proofs.put_zeros.Goals as goal
+
+pub returns-then-out-lt146 : goal.returns-then-out-lt146
+returns-then-out-lt146 c = kept 146 (replicate 146 (pos 0)) c.args.out.now c.if-out-lt146.true
+
+pub loop-i-init : goal.loop-i-init
+loop-i-init c = begun _ _ _
+
+pub slice_set_of-out : goal.slice_set_of-out
+slice_set_of-out c = omega (arith, c.loop-i.invariant.long, c.if-out-lt146.false)
+
+pub loop-i-preserved : goal.loop-i-preserved
+loop-i-preserved c =
+    let l = c in
+    let o = l.args.out.now in
+    let long = length-replicate 146 (pos 0) in
+    front_turned o (replicate 146 (pos 0)) (omega (arith, long, l.if-out-lt146.false)) l.loop-i.out l.loop-i.i (pos 0) (pos 0) (omega (arith, long, c.loop-i-test.true)) (sym (get_or-replicate 146 l.loop-i.i (pos 0) (pos 0) c.loop-i-test.true)) l.loop-i.invariant
+
+pub shape_of-out : goal.shape_of-out
+shape_of-out c = c.loop-i.invariant.long
+
+pub returns : goal.returns
+returns c =
+    let l = c in
+    let o = l.args.out.now in
+    over_front_lem o (replicate 146 (pos 0)) l.loop-i.out l.loop-i.i 146 (length-replicate 146 (pos 0)) c.loop-i-test.false l.loop-i.invariant
+    ∙ sym (taken _ _ _ (le-leb 146 (length o) l.if-out-lt146.false))

@@ -1,0 +1,214 @@
+use mathlib.Core.Bool.{Bool, true, ◌&&◌}
+use mathlib.Core.List.{List}
+use mathlib.Core.Path.{◌≡◌, refl, sym, ◌∙◌, ap, subst}
+use Prim.Native.Nat.{ℕ}
+use native.Mathlib.Omega.{arith}
+use borrow.Author.Tests.{not-true, not-false}
+use mir.Facts.{to_z-of_z}
+use Rattle.getbits.specs.declared.Flag.{Flag}
+use Rattle.getbits.proofs.Chain.{through, taken, left, both_hold}
+use Rattle.lent.proofs.Calls.{pair, first_fails, second_fails}
+use Rattle.flat.specs.Layout.{Buffers, buffers, has_room}
+use Rattle.flat.proofs.Room.{Room, room}
+use Rattle.tile_layout.specs.Limits.{in_domain}
+use Rattle.tile_layout.specs.declared.TileArgs.{TileArgs}
+use Rattle.frame_layout.specs.Frame.{in_frame_domain, usable, frame_args, read_reuse, reuse_allowed, parse_tile_info_frmhdr}
+use Rattle.frame_hdr.specs.Into.{frame_in, seq_in, frame_into, parse_tile_info_frmhdr_into}
+use Rattle.frame_layout.specs.declared.FrameHeader.{FrameHeader}
+use Rattle.frame_layout.specs.declared.FrameRead.{FrameRead}
+use Rattle.frame_layout.specs.declared.SeqLayout.{SeqLayout}
+use Rattle.frame_hdr.proofs.Into.{Held, held, allowed_in, fresh_into, what-is-left}
+use Rattle.frame_layout.proofs.Usable.{Tiled, known, usable_tiles_lem, frame_usable, frame_in_domain, allowed_only, reused_tiled}
+use Rattle.frame_hdr.proofs.frame_layout_into.Goals as goal
+
+-- the buffers lent, and the records in them
+abbrev own : goal.Start → Buffers
+own s = buffers s.args.info.now s.args.cols.now s.args.rows.now
+
+abbrev theirs : goal.Start → Buffers
+theirs s = buffers s.args.seq-info.now s.args.seq-cols.now s.args.seq-rows.now
+
+abbrev bytes : goal.Start → List ℕ
+bytes s = s.args.s.now
+
+abbrev header : goal.Start → FrameHeader
+header s = frame_in s.args.frame-type s.args.width s.args.height s.args.sb128 (own s)
+
+abbrev sequence : goal.Start → SeqLayout
+sequence s =
+    seq_in s.args.seq-sb128 s.args.max-width s.args.max-height s.args.level s.args.tier s.args.present (theirs s)
+
+abbrev start : goal.Else-not-has_room-2 → goal.Start
+start e = e.before.before.before.before.before.before.before.before.before.before.before.before.before.before
+
+-- the buffers have room
+own_room : (e : goal.Else-not-has_room-2) → has_room (own (start e)) ≡ true
+own_room e =
+    let o = e in
+    sym o.has_room.ensures ∙ not-false o.has_room.result o.if-not-has_room.false
+
+their_room : (e : goal.Else-not-has_room-2) → has_room (theirs (start e)) ≡ true
+their_room e = sym e.has_room-2.ensures ∙ not-false e.has_room-2.result e.if-not-has_room-2.false
+
+abbrev roomy : (e : goal.Else-not-has_room-2) → Room (theirs (start e))
+roomy e = room (theirs (start e)) (their_room e)
+
+-- the question of the domain
+all_three : {a a' b b' c c' : Bool} → a ≡ a' → b ≡ b' → c ≡ c' → a && b && c ≡ a' && b' && c'
+all_three e f g = rw (e, f, g) refl
+
+abbrev checked : goal.After-is_usable-usable → goal.Else-not-has_room-2
+checked u = u.before.before.before
+
+asked : (u : goal.After-is_usable-usable) → u.is_extent.result && u.is_extent-2.result && u.is_usable-usable.result
+    ≡ in_frame_domain (header (start (checked u))) (sequence (start (checked u)))
+unfolding in_frame_domain
+asked u =
+    let f = (start (checked u)).ranges in
+    all_three (rw (to_z-of_z f.width) at u.is_extent.ensures) (rw (to_z-of_z f.height) at u.is_extent-2.ensures)
+    (rw (to_z-of_z f.max-width, to_z-of_z f.max-height) at u.is_usable-usable.ensures)
+
+abbrev begin : goal.Else-not-sized-usable → goal.Start
+begin k = start (checked k.before)
+
+inside : (k : goal.Else-not-sized-usable) → in_frame_domain (header (begin k)) (sequence (begin k)) ≡ true
+inside k = sym (asked k) ∙ not-false _ k.if-not-sized-usable.false
+
+fit : (k : goal.Else-not-sized-usable) → usable (sequence (begin k)) ≡ true
+fit k = frame_usable (header (begin k)) (sequence (begin k)) (inside k)
+
+-- what the layout is read for
+made : (c : goal.After-frame_args-a) → c.frame_args-a.result ≡ frame_args (header (begin c)) (sequence (begin c))
+made c =
+    let f = (begin c).ranges in
+    rw (to_z-of_z f.width, to_z-of_z f.height) at c.frame_args-a.ensures
+
+in_domain_lem : (c : goal.After-frame_args-a) → in_domain c.frame_args-a.result ≡ true
+in_domain_lem c = ap in_domain (made c) ∙ frame_in_domain (header (begin c)) (sequence (begin c)) (inside c)
+
+-- a layout whose counts and starts are small, in its buffers
+in_buffers : (e : goal.Else-not-has_room-2) → Tiled (sequence (start e)).t → Tiled (Held (theirs (start e)))
+in_buffers e = subst Tiled (held (theirs (start e)) (their_room e))
+
+-- the question of reuse
+abbrev args : goal.After-reuse_allowed-allowed → goal.After-frame_args-a
+args r = r.before.before.before.before.before
+
+allowed : (r : goal.After-reuse_allowed-allowed) → r.reuse_allowed-allowed.result ≡ reuse_allowed (args r).frame-args.result (sequence (begin (args r).before))
+allowed r =
+    let s = begin (args r).before in
+    let q = sequence s in
+    rw (r.is_set.ensures, to_z-of_z s.fits.max-width, to_z-of_z s.fits.max-height) at r.reuse_allowed-allowed.ensures
+    ∙ allowed_in (args r).frame-args.result q (theirs s) (their_room (checked (args r).before.before)) refl (ap (λ (x : TileArgs). x.seq_code) (made (args r)))
+
+answered : (f : goal.After-read_reuse-reuse) → f.read_reuse-reuse.result ≡ read_reuse (bytes (begin (args f).before)) (begin (args f).before).args.p (args f).frame-args.result (sequence (begin (args f).before))
+unfolding read_reuse
+answered f = rw (allowed f) at f.read_reuse-reuse.ensures
+
+tiled : (f : goal.After-read_reuse-reuse) → f.read_reuse-reuse.result.value ≡ true → Tiled (Held (theirs (begin (args f).before)))
+tiled f v =
+    let k = (args f).before in
+    let s = begin k in
+    in_buffers (checked k.before)
+    (reused_tiled (args f).frame-args.result (sequence s) (fit k)
+    (sym (allowed f)
+    ∙ allowed_only f.reuse_allowed-allowed.result (bytes s) s.args.p _ (sym (ap (λ (x : Flag). x.value) f.read_reuse-reuse.ensures) ∙ v)))
+
+pub returns-then-not-has_room : goal.returns-then-not-has_room
+unfolding parse_tile_info_frmhdr_into
+returns-then-not-has_room c =
+    let k = c in
+    let s = k in
+    let lacks = sym k.has_room.ensures ∙ not-true k.has_room.result c.if-not-has_room.true in
+    what-is-left (bytes s) s.args.p (own s) (theirs s) (header s) (sequence s) refl
+    (rw c.unread.ensures (sym (left _ _ _ (first_fails _ (has_room (theirs s)) lacks)))) refl refl
+
+pub returns-then-not-has_room-2 : goal.returns-then-not-has_room-2
+unfolding parse_tile_info_frmhdr_into
+returns-then-not-has_room-2 c =
+    let k = c in
+    let s = k in
+    let lacks = sym k.has_room-2.ensures ∙ not-true k.has_room-2.result c.if-not-has_room-2.true in
+    what-is-left (bytes s) s.args.p (own s) (theirs s) (header s) (sequence s) refl
+    (rw c.unread-then-not-has_room-2.ensures (sym (left _ _ _ (second_fails (has_room (own s)) _ lacks)))) refl refl
+
+pub is_usable-usable-requires : goal.is_usable-usable-requires
+is_usable-usable-requires c =
+    let r = roomy c in
+    (r.bytes, r.cols, r.rows)
+
+pub returns-then-not-sized-usable : goal.returns-then-not-sized-usable
+unfolding parse_tile_info_frmhdr_into parse_tile_info_frmhdr
+returns-then-not-sized-usable c =
+    let b = c in
+    let u = b in
+    let e = checked u in
+    let s = start e in
+    let out = sym (asked u) ∙ not-true _ b.if-not-sized-usable.true in
+    what-is-left (bytes s) s.args.p (own s) (theirs s) (header s) (sequence s) refl
+    (rw c.unread-then-not-sized-usable.ensures (sym (taken _ _ _ (both_hold (own_room e) (their_room e)) ∙ ap (λ (z : FrameRead). frame_into z (own s)) (left _ _ _ out)))) refl refl
+
+pub reuse_allowed-allowed-requires : goal.reuse_allowed-allowed-requires
+reuse_allowed-allowed-requires c =
+    let a = c in
+    let k = a in (
+      in_domain_lem a,
+      λ on.
+          let t = in_buffers (checked k) ((known (sequence (begin k)) (fit k)).tiled on) in
+          ((usable_tiles_lem _ _ _ t.cols).small, (usable_tiles_lem _ _ _ t.rows).small),
+    )
+
+pub reused_layout-requires : goal.reused_layout-requires
+reused_layout-requires c =
+    let i = c in
+    let f = i in
+    let e = checked (args f).before.before in
+    let r = roomy e in
+    let t = tiled f i.if-reuse.true in
+    (in_domain_lem (args f), (own_room e, ((r.bytes, r.cols, r.rows), (t.cols, t.rows))))
+
+pub returns-then-reuse : goal.returns-then-reuse
+unfolding parse_tile_info_frmhdr_into parse_tile_info_frmhdr
+returns-then-reuse c =
+    let l = c in
+    let i = l in
+    let f = i in
+    let a = args f in
+    let k = a.before in
+    let e = checked k.before in
+    let s = start e in
+    let read = taken _ _ _ (inside k) ∙ through _ _ (made a) ∙ through _ _ (answered f) ∙ taken _ _ _ i.if-reuse.true in
+    let put = pair refl l.reused_layout.ensures ∙ ap (λ (z : FrameRead). frame_into z (own s)) (sym read) in
+    what-is-left (bytes s) s.args.p (own s) (theirs s) (header s) (sequence s) refl
+    (put ∙ sym (taken _ _ _ (both_hold (own_room e) (their_room e)))) c.cols-1.given c.rows-1.given
+
+pub fresh_layout-requires : goal.fresh_layout-requires
+fresh_layout-requires c =
+    let f = c in
+    let a = args f in
+    let s = begin a.before in
+    (in_domain_lem a, (rw (to_z-of_z s.fits.width, to_z-of_z s.fits.height) (ap (λ (x : TileArgs). x.width) (made a), ap (λ (x : TileArgs). x.height) (made a)), own_room (checked a.before.before)))
+
+pub returns : goal.returns
+unfolding parse_tile_info_frmhdr_into parse_tile_info_frmhdr
+returns c =
+    let l = c in
+    let i = l in
+    let f = i in
+    let a = args f in
+    let k = a.before in
+    let e = checked k.before in
+    let s = start e in
+    let read = taken _ _ _ (inside k) ∙ through _ _ (made a) ∙ through _ _ (answered f) ∙ left _ _ _ i.if-reuse.false in
+    let put = fresh_into (bytes s) f.read_reuse-reuse.result.next (header s) a.frame-args.result (own s) refl _ _ l.fresh_layout.ensures ∙ ap (λ (z : FrameRead). frame_into z (own s)) (sym read) in
+    what-is-left (bytes s) s.args.p (own s) (theirs s) (header s) (sequence s) refl
+    (put ∙ sym (taken _ _ _ (both_hold (own_room e) (their_room e)))) c.cols-2-1.given c.rows-2-1.given
+
+pub bounds-seq_info-0 : goal.bounds-seq_info-0
+bounds-seq_info-0 c = omega (arith, (roomy (checked c)).bytes)
+
+pub bounds-seq_info-3 : goal.bounds-seq_info-3
+bounds-seq_info-3 c = omega (arith, (roomy (checked c)).bytes)
+
+pub bounds-seq_info-7 : goal.bounds-seq_info-7
+bounds-seq_info-7 c = omega (arith, (roomy (checked c)).bytes)

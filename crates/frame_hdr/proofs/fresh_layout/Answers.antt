@@ -1,0 +1,69 @@
+use mathlib.Core.Bool.{Bool}
+use mathlib.Core.Path.{◌≡◌, refl, sym, ◌∙◌, ap}
+use Prim.Native.Nat.{ℕ, ◌^◌, ◌<◌}
+use native.Mathlib.Nat.{lt_of_le_of_lt}
+use lib.Dec.{lit<}
+use mir.Facts.{to_z-of_z}
+use mir.ValLaws.{to_z_pos}
+use mir.Syntax.{w32}
+use mir.Val.{to_z}
+use Rattle.answers.specs.Numbers.{is_refusal}
+use Rattle.getbits.specs.Chain.{pick}
+use Rattle.getbits.proofs.Chain.{taken}
+use Rattle.flat.specs.Layout.{Buffers, buffers, put_layout, layout_in}
+use Rattle.tile_layout.specs.Layout.{parse_tile_info}
+use Rattle.tile_layout.specs.Limits.{args_of}
+use Rattle.tile_layout.specs.declared.TileRead.{TileRead}
+use Rattle.tile_layout.proofs.Domain.{domain, low_multiplier}
+use Rattle.tile_info.specs.Into.{read_into, parse_tile_info_into}
+use Rattle.tile_info.specs.declared.TileOutcome.{TileOutcome}
+use Rattle.frame_hdr.specs.declared.FrameOutcome.{FrameOutcome}
+use Rattle.frame_hdr.proofs.fresh_layout.Goals as goal
+
+abbrev start : goal.After-parse_tile_info_into-r → goal.Start
+start z = z.before.before.before.before.before.before.before.before.before
+
+-- the buffers lent
+abbrev given : goal.Start → Buffers
+given s = buffers s.args.info.now s.args.cols.now s.args.rows.now
+
+abbrev fresh : goal.Start → TileRead
+fresh s = parse_tile_info s.args.s.now s.args.p (layout_in (given s)) s.args.a
+
+small : (s : goal.Start) → s.args.a.multiplier < 2 ^ 31
+small s = lt_of_le_of_lt (low_multiplier s.args.a (domain s.args.a s.requires.a_value)) (lit< tt)
+
+-- the outcome of a reading, with the code n
+module _ (z : TileRead) (b : Buffers) (old code : ℕ) {o : TileOutcome} {after : Buffers} (put : (o, after) ≡ read_into z b) where
+  outcome : o ≡ record { answer = z.answer; next = z.next }
+  outcome = ap (λ (x : TileOutcome × Buffers). x.0) put
+
+  coded : (n : ℕ) {t r : Bool} → r ≡ is_refusal o.answer → r ≡ t → n ≡ pick t old code
+      → (◌≡◌ {A = FrameOutcome} (record { answer = o.answer; sb128 = n; next = o.next }) (record { answer = z.answer; sb128 = pick (is_refusal z.answer) old code; next = z.next }))
+      × (after ≡ pick (is_refusal z.answer) b (put_layout z.info b))
+  coded n e f g =
+      let refusal = sym (ap (λ (x : TileOutcome). is_refusal x.answer) outcome) ∙ sym e ∙ f in
+      (rw (outcome, g, refusal) refl, ap (λ (x : TileOutcome × Buffers). x.1) put)
+
+-- the arguments as the call has them
+args : (s : goal.Start) → args_of (to_z w32 s.args.a.multiplier) s.args.a.frame_code s.args.a.seq_code s.args.width s.args.height s.args.a.level s.args.a.tier ≡ s.args.a
+args s = rw (to_z_pos w32 s.args.a.multiplier (small s), ← s.requires.width_value.0.0.0, ← s.requires.width_value.0.0.1) refl
+
+pub overflow_cast-a : goal.overflow_cast-a
+overflow_cast-a c = record { sfits = small c }
+
+pub returns-then-is_refusal : goal.returns-then-is_refusal
+unfolding parse_tile_info_into
+returns-then-is_refusal c =
+    let z = c in
+    let s = start z in
+    let into = simp (to_z-of_z s.fits.width, to_z-of_z s.fits.height, args s) at z.parse_tile_info_into-r.ensures.after_after in
+    coded (fresh s) (given s) s.args.sb128 s.args.a.frame_code (into ∙ taken _ _ _ s.pre.1.1) s.args.sb128 c.is_refusal.ensures c.if-is_refusal.true refl
+
+pub returns : goal.returns
+unfolding parse_tile_info_into
+returns c =
+    let z = c in
+    let s = start z in
+    let into = simp (to_z-of_z s.fits.width, to_z-of_z s.fits.height, args s) at z.parse_tile_info_into-r.ensures.after_after in
+    coded (fresh s) (given s) s.args.sb128 s.args.a.frame_code (into ∙ taken _ _ _ s.pre.1.1) s.args.a.frame_code c.is_refusal.ensures c.if-is_refusal.false refl

@@ -1,0 +1,35 @@
+use mathlib.Core.Path.{◌≡◌, ◌∙◌, ap}
+use Prim.Native.Nat.{ℕ, suc, ◌-◌, ◌*◌, ◌^◌, ◌<◌}
+use native.Mathlib.Nat.{pow-suc}
+use native.Mathlib.Omega.{arith}
+use lib.IntN.{negsuc}
+use mir.ValLaws.{to_z_pos}
+use mir.Syntax.{w32}
+use Rattle.getbits.proofs.Callers.{power_below}
+use Rattle.getbits.proofs.Widths.{back, sign_below, sign_above}
+use Rattle.getbits.proofs.sign.Goals as goal
+
+twice : (c : goal.After-power-half) → 2 ^ c.args.n ≡ 2 * c.power-half.result
+twice c =
+    let n = c.args.n in
+    let e : n ≡ suc (n - 1) = omega arith in
+    omega (arith, power_below (omega arith) c.power-half.ensures.0, pow-suc 2 (n - 1), ap (λ (x : ℕ). 2 ^ x) e)
+
+pub returns-then-v-half : goal.returns-then-v-half
+returns-then-v-half c =
+    let a = c.args in
+    let h : a.v < 2 ^ 31 = omega arith in
+    to_z_pos w32 a.v h ∙ sign_below a.n a.v (omega (arith, twice c))
+
+pub overflow_sub-half-2 : goal.overflow_sub-half-2
+overflow_sub-half-2 c = omega (arith, twice c)
+
+pub returns : goal.returns
+returns c =
+    let k = c in
+    let a = k.args in
+    let e = twice k in
+    back c.below_zero.result c.below_zero.type-inv
+    ∙ c.below_zero.ensures
+    ∙ ap negsuc (omega arith)
+    ∙ sign_above a.n a.v (omega arith) (omega arith)

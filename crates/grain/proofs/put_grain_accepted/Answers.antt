@@ -1,0 +1,10 @@
+use Rattle.text.proofs.Puts.{also}
+use Rattle.grain.specs.Print.{grain_accepted_text}
+use Rattle.grain.proofs.put_grain_accepted.Goals as goal
+
+pub returns : goal.returns
+unfolding grain_accepted_text
+returns c =
+    let fields = c in
+    let head = fields in
+    also head.put_ok-head.ensures fields.put_grain.ensures

@@ -1,0 +1,15 @@
+use mathlib.Core.Path.{ap, ◌∙◌}
+use Prim.Native.Nat.{◌-◌, max}
+use Rattle.layout_row.proofs.Walk.{widest_start, widest_next, widest_end}
+use Rattle.layout_row.proofs.widest_of.Goals as goal
+
+pub loop-i-init : goal.loop-i-init
+loop-i-init c = widest_start _ _ c.none-most.ensures
+
+pub loop-i-preserved : goal.loop-i-preserved
+loop-i-preserved c =
+    let k = c in
+    widest_next _ _ k.loop-i.invariant k.loop-i-test.true (c.most-most.ensures ∙ ap (max k.loop-i.most.0) c.size_at.ensures.0)
+
+pub returns : goal.returns
+returns c = widest_end _ _ c.loop-i.invariant c.loop-i-test.false

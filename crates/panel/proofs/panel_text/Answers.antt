@@ -1,0 +1,23 @@
+use mathlib.Core.Path.{◌≡◌}
+use Prim.Native.Nat.{◌-◌}
+use native.Mathlib.Omega.{arith}
+use borrow.Author.Rules.{rules}
+use borrow.Author.Tests.{ne_eqb}
+use lib.ListN.{length, take, drop, length-drop}
+use lib.Seq.{take_all}
+use Rattle.text.proofs.Puts.{stands}
+use Rattle.program.specs.Output.{either_text}
+use Rattle.panel.specs.Print.{panel_text}
+use Rattle.panel.proofs.panel_text.Goals as goal
+
+pub returns-then-input-eq0 : goal.returns-then-input-eq0
+unfolding panel_text either_text
+returns-then-input-eq0 c = rw c.if-input-eq0.true (stands (search rules) c.Put-refused.ensures)
+
+pub returns : goal.returns
+unfolding panel_text either_text
+returns c =
+    let e = c in
+    let s = e.args.input.now in
+    let rest : take (length s - 1) (drop 1 s) ≡ drop 1 s = take_all (length s - 1) (drop 1 s) (simp length-drop (omega arith)) in
+    rw (ne_eqb _ _ e.if-input-eq0.false, ← rest) (stands (search rules) c.put_rest.ensures)

@@ -1,0 +1,11 @@
+use Rattle.text.specs.Text.{word}
+use Rattle.program.specs.Output.{accepted_text}
+use Rattle.program.proofs.put_accepted.Goals as goal
+
+pub returns-then-uniform : goal.returns-then-uniform
+unfolding accepted_text word
+returns-then-uniform c = let l = c in rw l.if-uniform.true l.put_line.ensures
+
+pub returns : goal.returns
+unfolding accepted_text word
+returns c = let l = c in rw l.if-uniform.false l.put_line-2.ensures

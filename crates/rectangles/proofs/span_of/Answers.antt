@@ -1,0 +1,14 @@
+use native.Mathlib.Omega.{arith}
+use borrow.Author.Rules.{rules}
+use lib.ListN.{get_or}
+use Prim.Native.Nat.{◌+◌}
+use Rattle.rectangles.proofs.Rising.{edge_le}
+use Rattle.rectangles.proofs.span_of.Goals as goal
+
+pub overflow_sub-result : goal.overflow_sub-result
+overflow_sub-result c =
+    let s = c in
+    omega (arith, edge_le (get_or s.args.starts.now s.args.i 0) (get_or s.args.starts.now (s.args.i + 1) 0) s.args.side s.args.most s.requires.0, c.edge_at-begin.ensures, c.edge_at-end.ensures)
+
+pub returns : goal.returns
+returns c = search rules

@@ -1,0 +1,38 @@
+use Prim.Native.Nat.{◌+◌, ◌-◌, ◌*◌, ◌≤◌, ◌<◌}
+use mathlib.Core.Path.{◌≡◌}
+use native.Mathlib.Omega.{arith}
+use borrow.Author.Rules.{rules}
+use lib.ListN.{length, take, drop}
+use Rattle.text.specs.Text.{row, line}
+use Rattle.text.proofs.Puts.{none, also, within, kept}
+use Rattle.rectangles.specs.Rectangles.{each}
+use Rattle.rectangles.proofs.Each.{each_more}
+use Rattle.rects.proofs.put_tiles.Goals as goal
+
+-- there are numbers for a tile more
+room : (l : goal.At-loop-k invariant-loop decreases-loop) → l.loop-k.k < l.args.n → 4 * l.loop-k.k + 4 ≤ length l.args.xs.now
+room l h = omega (arith, l.requires)
+
+pub loop-k-init : goal.loop-k-init
+unfolding each
+loop-k-init c = (search rules, none _ _)
+
+pub overflow_mul-k : goal.overflow_mul-k
+overflow_mul-k c = omega (arith, room c c.loop-k-test.true, c.well-formed)
+
+pub put_tile-next-requires : goal.put_tile-next-requires
+put_tile-next-requires c = room c c.loop-k-test.true
+
+pub loop-k-preserved : goal.loop-k-preserved
+loop-k-preserved c =
+    let l = c in
+    (search rules, rw (← each_more (λ i. line (row (take 4 (drop (4 * i) l.args.xs.now)))) l.loop-k.k) (within (omega arith) (also l.loop-k.invariant.1 c.put_tile-next.ensures)))
+
+pub shape_of-out : goal.shape_of-out
+shape_of-out c = kept c.loop-k.invariant.1
+
+pub returns : goal.returns
+returns c =
+    let l = c in
+    let e : l.loop-k.k ≡ l.args.n = omega arith in
+    rw (← e) l.loop-k.invariant.1

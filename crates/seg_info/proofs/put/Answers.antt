@@ -1,0 +1,23 @@
+use mathlib.Core.Path.{◌≡◌}
+use borrow.Author.Rules.{rules}
+use mir.Syntax.{w16}
+use mir.Val.{to_z, of_z}
+use Rattle.seg_info.proofs.put.Goals as goal
+
+-- the delta, read back from its bits
+back : (s : goal.Start) → to_z w16 (of_z w16 s.args.f.delta) ≡ s.args.f.delta
+back s = search rules
+
+pub returns-then-f : goal.returns-then-f
+returns-then-f c =
+    let m3 = c in
+    let m2 = m3 in
+    let m1 = m2 in
+    simp (c.if-f.true, back m1, m1.mark.ensures, m2.mark-2.ensures, m3.mark-3.ensures)
+
+pub returns : goal.returns
+returns c =
+    let m3 = c in
+    let m2 = m3 in
+    let m1 = m2 in
+    simp (c.if-f.false, m1.mark.ensures, m2.mark-2.ensures, m3.mark-3.ensures)

@@ -1,0 +1,25 @@
+use mathlib.Core.Path.{◌≡◌, sym, ap, ◌∙◌}
+use borrow.Author.Rules.{rules}
+use mir.Syntax.{w16}
+use mir.Val.{to_z, of_z}
+use Rattle.seg_info.specs.Inner.{lent_seg}
+use Rattle.seg_info.specs.declared.SegmentationDataSet.{SegmentationDataSet}
+use Rattle.seg_info.proofs.Readings.{from_readings}
+use Rattle.seg_info.proofs.read_segment.Goals as goal
+
+-- the delta, read back from its bits
+back : (d : goal.After-delta_if-delta) → to_z w16 (of_z w16 d.delta_if-delta.result.value) ≡ d.delta_if-delta.result.value
+back d = search rules
+
+pub returns : goal.returns
+returns c =
+    let k = c in
+    let g = k in
+    let skip = g in
+    let d = skip in
+    let f = d in
+    let a = f.args in
+    ap (λ (x : SegmentationDataSet). record { seg = x; next = g.get_flag-globalmv.result.next }) k.put-masks.ensures
+    ∙ rw (back d)
+    (sym (from_readings a.s.now a.n (lent_seg a.delta_q.now a.r.masks) a.r.next f.get_flag-changed.result d.delta_if-delta.result skip.get_flag-skip.result g.get_flag-globalmv.result
+    f.get_flag-changed.ensures d.delta_if-delta.ensures skip.get_flag-skip.ensures g.get_flag-globalmv.ensures))

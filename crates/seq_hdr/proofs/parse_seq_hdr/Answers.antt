@@ -1,0 +1,66 @@
+use mathlib.Core.Path.{◌≡◌, refl, ap, sym, subst, ◌∙◌}
+use Rattle.answers.specs.Numbers.{number_of}
+use Rattle.getbits.proofs.Chain.{taken, left}
+use Rattle.flat.specs.Layout.{put_layout}
+use Rattle.flat.proofs.Room.{came_back}
+use Rattle.seq_record.specs.declared.SequenceHeader.{SequenceHeader}
+use Rattle.tile_layout.specs.declared.TileInfo.{TileInfo}
+use Rattle.seq_hdr.specs.Header.{with_tiling, parse_seq_hdr}
+use Rattle.seq_hdr.specs.HeaderLayout.{HeaderLayout}
+use Rattle.seq_hdr.specs.Tiling.{read_tiling}
+use Rattle.seq_hdr.specs.declared.SeqRead.{SeqRead}
+use Rattle.seq_hdr.proofs.HeaderLayout.{header_layout}
+use Rattle.seq_hdr.proofs.Into.{head_ends, rest_of, head_goes_on}
+use Rattle.seq_hdr.proofs.parse_seq_hdr.Goals as goal
+
+abbrev start : goal.After-is_refusal → goal.Start
+start h = h.before.before.before.before.before
+
+-- the header, and what is promised of its layout
+promised : (h : goal.After-is_refusal) {r : SeqRead} → let a = (start h).args in parse_seq_hdr a.s.now a.p a.strict ≡ r
+    → (r ≡ parse_seq_hdr a.s.now a.p a.strict) × HeaderLayout a.s.now a.p (number_of r.answer) r.hdr.tiling.t
+promised h e =
+    let a = (start h).args in
+    (sym e, subst (λ (r : SeqRead). HeaderLayout a.s.now a.p (number_of r.answer) r.hdr.tiling.t) e (header_layout a.s.now a.p a.strict))
+
+-- the header up to the rest
+to_rest : (n : goal.Else-is_refusal) → let a = (start n).args in parse_seq_hdr a.s.now a.p a.strict ≡ rest_of a.strict a.s.now n.read_head-head.result
+to_rest n =
+    let a = (start n).args in
+    head_goes_on a.s.now a.p a.strict n.read_head-head.ensures.is (sym n.is_refusal.ensures ∙ n.if-is_refusal.false)
+
+pub returns-then-is_refusal : goal.returns-then-is_refusal
+returns-then-is_refusal c =
+    let h = c in
+    let a = (start h).args in
+    promised h (head_ends a.s.now a.p a.strict h.read_head-head.ensures.is (sym h.is_refusal.ensures ∙ c.if-is_refusal.true))
+
+pub read_rest-rest-requires : goal.read_rest-rest-requires
+unfolding put_layout
+read_rest-rest-requires c = (refl, refl)
+
+pub returns-then-is_refusal-2 : goal.returns-then-is_refusal-2
+returns-then-is_refusal-2 c =
+    let k = c in
+    let n = k in
+    let w = k.read_rest-rest in
+    promised n (to_rest n ∙ w.ensures.0 n.read_head-head.result.hdr ∙ taken _ _ _ (sym k.is_refusal-2.ensures ∙ c.if-is_refusal-2.true) ∙ sym c.refuse_header.ensures)
+
+pub returns : goal.returns
+returns c =
+    let i = c in
+    let k = i in
+    let n = k in
+    let a = (start n).args in
+    let x = n.read_head-head.result in
+    let w = k.read_rest-rest in
+    let y = w.result in
+    let t = (read_tiling x.hdr.blocks.partition.sb128 x.hdr.picture.size x.hdr.level a.s.now x.next).fields.t in
+    let fine = sym k.is_refusal-2.ensures ∙ i.if-is_refusal-2.false in
+    let same = i.tile_info_of-t.ensures ∙ came_back t _ _ refl (w.ensures.1 ∙ left _ _ _ fine) k.cols-2-1.given k.rows-2-1.given in
+    promised n
+    (to_rest n
+    ∙ w.ensures.0 x.hdr
+    ∙ left _ _ _ fine
+    ∙ ap (λ (hdr : SequenceHeader). record { answer = y.answer; hdr = hdr; next = y.next })
+    (ap (λ (l : TileInfo). with_tiling x.hdr (record { present = y.present; t = l }) y.film_grain_present) (sym same) ∙ sym c.with_tiling-hdr.ensures))

@@ -1,0 +1,78 @@
+use mathlib.Core.Bool.{true, false}
+use mathlib.Core.List.{List}
+use mathlib.Core.Path.{◌≡◌, refl, sym, ap, ◌∙◌}
+use Prim.Native.Nat.{ℕ}
+use borrow.Author.Rules.{rules}
+use borrow.Author.Tests.{not-true, not-false}
+use mir.Syntax.{w32}
+use mir.Val.{to_z, of_z}
+use Rattle.answers.specs.declared.Answer.TheVariants.{Accepted}
+use Rattle.getbits.specs.Bits.{get_flag, flag_if}
+use Rattle.getbits.specs.Chain.{pick}
+use Rattle.getbits.specs.declared.Flag.{Flag}
+use Rattle.getbits.specs.declared.Place.{Place}
+use Rattle.getbits.proofs.Chain.{through, taken}
+use Rattle.seq_fields.specs.declared.AdaptiveBoolean.TheVariants.{Off, On, Adaptive}
+use Rattle.seq_picture.specs.declared.FrameSize.{FrameSize}
+use Rattle.seq_picture.specs.declared.Level.{Level}
+use Rattle.flat.specs.Layout.{Buffers, buffers, layout_in}
+use Rattle.flat.proofs.Room.{comes_back}
+use Rattle.tile_layout.specs.Layout.{parse_tile_info}
+use Rattle.tile_layout.specs.Limits.{no_tile_info}
+use Rattle.tile_layout.specs.declared.TileInfo.{TileInfo}
+use Rattle.tile_info.specs.Into.{read_into, parse_tile_info_into}
+use Rattle.seq_hdr.specs.Tiling.{tiling_args, tile_info_if, read_tiling}
+use Rattle.seq_hdr.proofs.Into.{tiling-into}
+use Rattle.seq_hdr.proofs.read_tiling.Goals as goal
+
+-- a tiling without a layout, and one with the layout z
+module _ (sb128 : ℕ) (size : FrameSize) (level : Level) (s : List ℕ) (p : Place) {present : Flag} (e : present ≡ get_flag s p) where
+  without : present.value ≡ false → read_tiling sb128 size level s p ≡ record { answer = Accepted; fields = record { present = Off; t = no_tile_info }; next = present.next }
+  unfolding read_tiling flag_if tile_info_if
+  without v = through _ _ e ∙ rw v (through _ _ refl ∙ through _ _ refl)
+
+  with_layout_lem : {adaptive : Flag} → present.value ≡ true → adaptive ≡ get_flag s present.next → let z = parse_tile_info s adaptive.next no_tile_info (tiling_args sb128 size level) in
+      read_tiling sb128 size level s p ≡ record { answer = z.answer; fields = record { present = pick adaptive.value Adaptive On; t = z.info }; next = z.next }
+  unfolding read_tiling flag_if tile_info_if
+  with_layout_lem v f = through _ _ e ∙ rw v (through _ _ f ∙ through _ _ refl)
+
+-- the buffers lent
+abbrev given : goal.Start → Buffers
+given s = buffers s.args.info.now s.args.cols.now s.args.rows.now
+
+-- the lengths, read back from their bits
+width : (c : goal.Start) → to_z w32 (of_z w32 c.args.size.max_width) ≡ c.args.size.max_width
+width c = search rules
+
+height : (c : goal.Start) → to_z w32 (of_z w32 c.args.size.max_height) ≡ c.args.size.max_height
+height c = search rules
+
+-- the zero layout stands in the buffers
+none : (s : goal.Start) → layout_in (given s) ≡ no_tile_info
+none s = sym (ap layout_in s.requires.rows_value_2) ∙ comes_back no_tile_info (given s) refl refl s.requires.rows_value
+
+pub returns-then-not-present : goal.returns-then-not-present
+returns-then-not-present c =
+    let g = c in
+    let s = g in
+    let a = s.args in
+    let e = without a.sb128 a.size a.level a.s.now a.p g.get_flag-present.ensures (not-true _ c.if-not-present.true) in
+    record { is = rw e refl; put = rw e (sym s.requires.rows_value_2); behind = refl }
+
+pub returns : goal.returns
+unfolding parse_tile_info_into
+returns c =
+    let k = c in
+    let r = k in
+    let f = r in
+    let n = f in
+    let g = n in
+    let s = g in
+    let a = s.args in
+    let q = f.get_flag-adaptive.result.next in
+    let args = tiling_args a.sb128 a.size a.level in
+    let into = rw (width s, height s) at r.parse_tile_info_into-r.ensures.after_after in
+    tiling-into (parse_tile_info a.s.now q no_tile_info args) (given s) s.requires.rows_value
+    (into ∙ taken _ _ _ s.requires.rows_value ∙ ap (λ (old : TileInfo). read_into (parse_tile_info a.s.now q old args) (given s)) (none s))
+    k.cols-1.given k.rows-1.given k.adaptive_or-present.ensures
+    (with_layout_lem a.sb128 a.size a.level a.s.now a.p g.get_flag-present.ensures (not-false _ n.if-not-present.false) f.get_flag-adaptive.ensures)

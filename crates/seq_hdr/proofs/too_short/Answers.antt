@@ -1,0 +1,11 @@
+use mathlib.Core.Path.{◌∙◌, ap}
+use native.Mathlib.Omega.{arith}
+use Rattle.answers.specs.declared.Answer.TheVariants.{ShortBuffer}
+use Rattle.getbits.proofs.Callers.{as_read, read_none}
+use Rattle.getbits.specs.declared.Number.{Number}
+use Rattle.seq_hdr.proofs.too_short.Goals as goal
+
+pub returns : goal.returns
+returns c =
+    let a = c.args in
+    ap (λ (r : Number). record { answer = ShortBuffer; next = r.next }) (as_read a.s.now a.p 0 (omega arith) c.read_bits-here.ensures ∙ read_none a.s.now a.p)

@@ -1,0 +1,18 @@
+use mathlib.Core.List.{append-nil}
+use mathlib.Core.Path.{◌≡◌, ◌∙◌}
+use Rattle.flat_hdr.specs.Header.{flat_seq_hdr}
+use Rattle.text.specs.Text.{word, lines}
+use Rattle.text.proofs.Puts.{also}
+use Rattle.seqhdr.specs.Fields.{header_text, grain_text}
+use Rattle.seqhdr.proofs.put_header.Goals as goal
+
+pub returns : goal.returns
+unfolding header_text grain_text lines word
+returns c =
+    let grain = c in
+    let layout = grain in
+    let fields = layout in
+    let flat = fields in
+    let hdr = flat.args.hdr in
+    let numbers : flat.put_seq_hdr.new.1.0 ≡ flat_seq_hdr hdr = flat.put_seq_hdr.ensures ∙ append-nil (flat_seq_hdr hdr) in
+    rw (← numbers) (also fields.put_fields-first.ensures (also layout.put_layout-second.ensures grain.put_filled.ensures))

@@ -1,0 +1,12 @@
+use Rattle.std.proofs.Common.{ℕ, ◌/◌, max, ap, ◌∙◌}
+use native.Mathlib.Nat.{div-zero}
+use Rattle.superblocks.proofs.AreaSb.max_height.Goals as goal
+
+pub returns-then-widest_tile-eq0 : goal.returns-then-widest_tile-eq0
+returns-then-widest_tile-eq0 c = rw (c.if-widest_tile-eq0.true, div-zero)
+
+pub returns : goal.returns
+returns c =
+    let q = c in
+    let z = q in
+    c.umax.ensures ∙ ap (max 1) (q.quotient.ensures ∙ ap (λ (x : ℕ). x / z.args.widest_tile.0) z.shifted.ensures)

@@ -1,0 +1,17 @@
+use Rattle.std.proofs.Common.{◌≡◌, ◌+◌, ◌-◌, ◌%◌, ◌^◌, ◌∙◌, lt_of_le_of_lt, rules}
+use Rattle.superblocks.specs.Counts.{fits_uniform}
+use Rattle.superblocks.proofs.Counts.{part_le}
+use Rattle.superblocks.proofs.FrameSb.fits_uniform.Goals as goal
+
+count : (c : goal.After-u32_to_u64-n) → c.u32_to_u64-tiles.result ≡ 2 ^ (c.args.log2 % 32)
+count c = c.u32_to_u64-tiles.ensures ∙ c.power.ensures.0
+
+pub overflow_mul-result : goal.overflow_mul-result
+overflow_mul-result c =
+    let t = c.u32_to_u64-tiles.result in
+    let x = c.u32_to_u64-n.result + (t - 1) in
+    lt_of_le_of_lt {m = x} (rw (← count c) (part_le x t)) (search rules)
+
+pub returns : goal.returns
+unfolding fits_uniform
+returns c = rw (c.u32_to_u64-n.ensures, count c)

@@ -1,0 +1,15 @@
+use Rattle.std.proofs.Common.{◌≡◌, ◌%◌, ◌^◌, ap, ◌∙◌, arith}
+use Rattle.tile_layout.specs.Limits.{superblocks}
+use Rattle.superblocks.specs.Counts.{size_of}
+use Rattle.superblocks.proofs.sb_count.Goals as goal
+
+size : (c : goal.After-power-sbsz_min1) → c.power-sbsz_min1.result ≡ size_of c.args.code
+size c =
+    let e : c.sbsz_log2.result % 32 ≡ c.sbsz_log2.result = omega (arith, c.sbsz_log2.ensures.2) in
+    c.power-sbsz_min1.ensures.0 ∙ ap (◌^◌ 2) e ∙ c.sbsz_log2.ensures.0
+
+pub returns : goal.returns
+unfolding superblocks
+returns c =
+    let w = c in
+    c.whole_sbs.ensures ∙ rw (c.u32_to_u64-2.ensures, w.u32_to_u64.ensures, size w)

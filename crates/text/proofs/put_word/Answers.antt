@@ -1,0 +1,21 @@
+use Prim.Native.Nat.{ℕ, ◌-◌}
+use native.Mathlib.Numerals.{add-one}
+use native.Mathlib.Omega.{arith}
+use borrow.Author.Rules.{rules}
+use lib.Seq.{take-suc, take_all}
+use Rattle.text.proofs.Puts.{none, also, within, kept}
+use Rattle.text.proofs.put_word.Goals as goal
+
+pub loop-i-init : goal.loop-i-init
+loop-i-init c = (search rules, none _ _)
+
+pub loop-i-preserved : goal.loop-i-preserved
+loop-i-preserved c =
+    let l = c in
+    (search rules, rw (add-one l.loop-i.i, take-suc {A = ℕ} _ l.loop-i.i 0 c.loop-i-test.true) (within (omega arith) (also l.loop-i.invariant.1 c.put_byte-next.ensures)))
+
+pub shape_of-out : goal.shape_of-out
+shape_of-out c = kept c.loop-i.invariant.1
+
+pub returns : goal.returns
+returns c = within c.loop-i.invariant.0 (rw (take_all _ _ c.loop-i-test.false) at c.loop-i.invariant.1)

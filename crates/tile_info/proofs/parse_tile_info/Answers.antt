@@ -1,0 +1,22 @@
+use mathlib.Core.Path.{refl, ◌∙◌, ap}
+use mir.Facts.{to_z-of_z}
+use Rattle.flat.specs.Layout.{has_room}
+use Rattle.flat.proofs.Room.{put_room}
+use Rattle.tile_layout.specs.Limits.{args_of}
+use Rattle.tile_layout.proofs.Lengths.{cols_length, rows_length}
+use Rattle.tile_info.proofs.Into.{whole_read, promised}
+use Rattle.tile_info.proofs.parse_tile_info.Goals as goal
+
+pub returns : goal.returns
+returns c =
+    let r = c in
+    let p = r in
+    let s = p in
+    let k = s.args in
+    let f = s.ranges in
+    let t = k.thdr in
+    let put = p.put_tile_info.ensures in
+    let a = args_of k.sbmul k.sb128 k.seq_sb128 k.w k.h k.level k.tier in
+    let has = ap has_room put.0 ∙ put_room t _ (cols_length t _ s.well-formed.1.1.0) (rows_length t _ s.well-formed.1.1.0) refl in
+    promised k.s.now k.p t a
+    (whole_read k.s.now k.p t a _ (put.1 refl) (r.parse_tile_info_into-r.ensures.fact.0 has) (rw (to_z-of_z f.sbmul, to_z-of_z f.w, to_z-of_z f.h) refl) c.tile_info_of-info.ensures)

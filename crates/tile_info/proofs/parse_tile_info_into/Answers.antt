@@ -1,0 +1,64 @@
+use mathlib.Core.Bool.{true}
+use mathlib.Core.Path.{◌≡◌, refl, sym, ◌∙◌, ap}
+use borrow.Author.Tests.{not-true, not-false}
+use mir.Facts.{to_z-of_z}
+use Rattle.getbits.proofs.Chain.{taken, left}
+use Rattle.flat.specs.Layout.{Buffers, buffers, has_room, layout_in}
+use Rattle.tile_layout.specs.Layout.{parse_tile_info}
+use Rattle.tile_layout.specs.Limits.{args_of, in_domain}
+use Rattle.tile_layout.specs.declared.TileArgs.{TileArgs}
+use Rattle.tile_layout.specs.declared.TileRead.{TileRead}
+use Rattle.tile_info.specs.Into.{read_into, parse_tile_info_into}
+use Rattle.tile_info.proofs.Into.{what-is-left}
+use Rattle.tile_info.proofs.parse_tile_info_into.Goals as goal
+
+-- the buffers lent, and the arguments
+abbrev given : goal.Start → Buffers
+given s = buffers s.args.info.now s.args.cols.now s.args.rows.now
+
+abbrev asked : goal.Start → TileArgs
+asked s =
+    let a = s.args in
+    args_of a.sbmul a.sb128 a.seq_sb128 a.w a.h a.level a.tier
+
+made : (c : goal.After-tile_args-a) → c.tile_args-a.result ≡ asked c
+made c =
+    let f = c.ranges in
+    rw (to_z-of_z f.sbmul, to_z-of_z f.w, to_z-of_z f.h) at c.tile_args-a.ensures
+
+has : (e : goal.Else-not-has_room) → has_room (given e) ≡ true
+has e = sym e.has_room.ensures ∙ not-false e.has_room.result e.if-not-has_room.false
+
+pub returns-then-not-has_room : goal.returns-then-not-has_room
+unfolding parse_tile_info_into
+returns-then-not-has_room c =
+    let k = c in
+    let s = k in
+    let lacks = sym k.has_room.ensures ∙ not-true k.has_room.result c.if-not-has_room.true in
+    what-is-left s.args.s.now s.args.p (given s) (asked s) (rw c.unread.ensures (sym (left _ _ _ lacks))) refl refl
+
+pub read_layout-requires : goal.read_layout-requires
+read_layout-requires c =
+    let t = c in
+    (sym t.in_domain_lem.ensures ∙ t.if-in_domain.true, has t)
+
+pub returns-then-in_domain : goal.returns-then-in_domain
+unfolding parse_tile_info_into
+returns-then-in_domain c =
+    let r = c in
+    let m = r in
+    let e = m in
+    let s = e in
+    let put = r.read_layout.ensures ∙ ap (λ (a : TileArgs). read_into (parse_tile_info s.args.s.now s.args.p (layout_in (given s)) a) (given s)) (made m) in
+    what-is-left s.args.s.now s.args.p (given s) (asked s) (put ∙ sym (taken _ _ _ (has e))) c.cols-1.given c.rows-1.given
+
+pub returns : goal.returns
+unfolding parse_tile_info_into parse_tile_info
+returns c =
+    let e = c in
+    let m = e in
+    let h = m in
+    let s = h in
+    let out = ap in_domain (sym (made m)) ∙ sym e.in_domain_lem.ensures ∙ e.if-in_domain.false in
+    what-is-left s.args.s.now s.args.p (given s) (asked s)
+    (rw c.unread-2.ensures (sym (taken _ _ _ (has h) ∙ ap (λ (z : TileRead). read_into z (given s)) (left _ _ _ out)))) refl refl

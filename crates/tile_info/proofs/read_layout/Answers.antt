@@ -1,0 +1,80 @@
+use mathlib.Core.Bool.{true, false}
+use mathlib.Core.List.{List}
+use mathlib.Core.Path.{◌≡◌, refl, sym, ◌∙◌, ap}
+use Prim.Native.Nat.{ℕ}
+use Rattle.answers.specs.declared.Answer.TheVariants.{Accepted}
+use Rattle.getbits.specs.Bits.{get_bit, get_flag}
+use Rattle.getbits.specs.Chain.{then}
+use Rattle.getbits.specs.declared.Number.{Number}
+use Rattle.getbits.specs.declared.Place.{Place}
+use Rattle.getbits.proofs.Chain.{through, taken, left}
+use Rattle.lent.proofs.Calls.{pair}
+use Rattle.flat.specs.Layout.{Buffers, buffers, put_layout, layout_in}
+use Rattle.tile_layout.specs.Layout.{uniform_layout, non_uniform_layout, parse_tile_info}
+use Rattle.tile_layout.specs.Limits.{in_domain}
+use Rattle.tile_layout.specs.declared.TileArgs.{TileArgs}
+use Rattle.tile_layout.specs.declared.TileInfo.{TileInfo}
+use Rattle.tile_layout.specs.declared.TileRead.{TileRead}
+use Rattle.tile_info.specs.Into.{read_into}
+use Rattle.tile_info.proofs.Word.{flag_set, flag_unset}
+use Rattle.tile_info.proofs.read_layout.Goals as goal
+
+-- the buffers lent
+abbrev given : goal.Start → Buffers
+given s = buffers s.args.info.now s.args.cols.now s.args.rows.now
+
+module _ (s : List ℕ) (p : Place) (old : TileInfo) (a : TileArgs) (d : in_domain a ≡ true) where
+  -- by the flag
+  uniform : (get_flag s p).value ≡ true → parse_tile_info s p old a ≡ uniform_layout s (get_flag s p).next a
+  unfolding parse_tile_info
+  uniform e = taken _ _ _ d ∙ through _ _ refl ∙ taken _ _ _ e
+
+  non_uniform : (get_flag s p).value ≡ false → parse_tile_info s p old a ≡ non_uniform_layout s (get_flag s p).next old a
+  unfolding parse_tile_info
+  non_uniform e = taken _ _ _ d ∙ through _ _ refl ∙ left _ _ _ e
+
+-- a uniform layout is accepted
+accepted : (s : List ℕ) (q : Place) (a : TileArgs) (b : Buffers) {n : Place} {after : Buffers} → (n ≡ (uniform_layout s q a).next) × (after ≡ put_layout (uniform_layout s q a).info b)
+    → (record { answer = Accepted; next = n }, after) ≡ read_into (uniform_layout s q a) b
+unfolding uniform_layout then
+accepted s q a b e = pair (ap (λ (n : Place). record { answer = Accepted; next = n }) e.0) e.1
+
+behind : (s : List ℕ) (p : Place) (b : Number) → b ≡ get_bit s p → b.next ≡ (get_flag s p).next
+unfolding get_flag
+behind s p b e = ap (λ (n : Number). n.next) e
+
+pub uniform_layout-next-requires : goal.uniform_layout-next-requires
+uniform_layout-next-requires c =
+    let t = c in
+    let k = t in
+    let s = k in
+    (s.requires.a_value, (k.frame_limits-k.ensures, (t.look_ahead-word.ensures, s.requires.rows_value)))
+
+pub returns-then-word-ge2147483648 : goal.returns-then-word-ge2147483648
+returns-then-word-ge2147483648 c =
+    let u = c in
+    let t = u in
+    let s = t in
+    let a = s.args in
+    let flag = flag_set a.s.now a.p t.look_ahead-word.result t.look_ahead-word.ensures t.if-word-ge2147483648.true in
+    accepted a.s.now _ a.a (given s) u.uniform_layout-next.ensures
+    ∙ ap (λ (z : TileRead). read_into z (given s)) (sym (uniform a.s.now a.p (layout_in (given s)) a.a s.requires.a_value flag))
+
+pub nonuniform_layout-requires : goal.nonuniform_layout-requires
+nonuniform_layout-requires c =
+    let e = c in
+    let k = e in
+    let s = k in
+    (s.requires.a_value, (k.frame_limits-k.ensures, s.requires.rows_value))
+
+pub returns : goal.returns
+returns c =
+    let u = c in
+    let g = u in
+    let e = g in
+    let s = e in
+    let a = s.args in
+    let flag = flag_unset a.s.now a.p e.look_ahead-word.result e.look_ahead-word.ensures e.if-word-ge2147483648.false in
+    u.nonuniform_layout.ensures
+    ∙ ap (λ (q : Place). read_into (non_uniform_layout a.s.now q (layout_in (given s)) a.a) (given s)) (behind a.s.now a.p g.get_bit-uniform.result g.get_bit-uniform.ensures)
+    ∙ ap (λ (z : TileRead). read_into z (given s)) (sym (non_uniform a.s.now a.p (layout_in (given s)) a.a s.requires.a_value flag))

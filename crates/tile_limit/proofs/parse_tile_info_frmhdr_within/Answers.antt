@@ -1,0 +1,13 @@
+use mathlib.Core.Path.{sym, ◌∙◌, ap, subst}
+use Rattle.frame_layout.specs.Sequence.{seq_layout}
+use Rattle.tile_limit.specs.Promises.{LimitedFrame}
+use Rattle.tile_limit.specs.Within.{frame_within}
+use Rattle.tile_limit.proofs.Limited.{limited_frame}
+use Rattle.tile_limit.proofs.parse_tile_info_frmhdr_within.Goals as goal
+
+pub returns : goal.returns
+returns c =
+    let a = c.args in
+    let q = seq_layout a.seqhdr in
+    let e = c.frame_within_lem.ensures ∙ ap (frame_within a.limit a.hdr) c.parse_tile_info_frmhdr.ensures.value in
+    (e, subst (LimitedFrame a.s.now a.p a.hdr q a.limit) (sym e) (limited_frame a.s.now a.p a.hdr q a.limit))

@@ -1,0 +1,71 @@
+use mathlib.Core.Bool.{false}
+use mathlib.Core.List.{List}
+use mathlib.Core.Path.{◌≡◌, sym, ap, ◌∙◌}
+use Prim.Native.Nat.{ℕ, ◌-◌, ◌≤◌}
+use native.Mathlib.Omega.{arith}
+use borrow.Author.Tests.{leb-true}
+use lib.ListN.{get_or, length, take, drop, length-drop}
+use lib.Seq.{take_all}
+use lib.IntN.{ℤ, pos}
+use lib.Dec.{leb}
+use mir.Syntax.{w32}
+use mir.Val.{to_z, of_z}
+use Rattle.tile_layout.specs.Layout.{parse_tile_info}
+use Rattle.tile_layout.specs.Limits.{args_of}
+use Rattle.tile_layout.specs.declared.TileRead.{TileRead}
+use Rattle.tile_layout.specs.declared.TileInfo.{TileInfo}
+use Rattle.getbits.specs.Bits.{place_at}
+use Rattle.getbits.proofs.Widths.{back}
+use Rattle.superblocks.specs.Counts.{multiplier_of}
+use Rattle.tile_request.specs.Request.{samples_at, request_over}
+use Rattle.getbits.proofs.Chain.{both, taken, left}
+use Rattle.tile_request.proofs.request_over.Goals as goal
+
+-- the layout read for a request s
+abbrev read : List ℕ → List ℕ → TileInfo → ℤ → ℤ → ℤ → TileRead
+read s bits old m w h = parse_tile_info bits (place_at 0 false) old (args_of m (get_or s 4 0) (get_or s 5 0) w h (get_or s 6 0) (get_or s 7 0))
+
+-- an input of eight bytes or more
+long : (c : goal.Then-is_request) → 8 ≤ length c.args.s.now
+long c =
+    let s = c.args.s.now in
+    leb-true 8 (length s) (both (leb 8 (length s)) (leb (length s) 65536) (sym c.is_request.ensures ∙ c.if-is_request.true)).0
+
+pub bounds-s-4 : goal.bounds-s-4
+bounds-s-4 c = omega (arith, long c)
+
+pub bounds-s-5 : goal.bounds-s-5
+bounds-s-5 c = omega (arith, long c)
+
+pub slice_bounds-parse_tile_info-count : goal.slice_bounds-parse_tile_info-count
+slice_bounds-parse_tile_info-count c = long c
+
+pub slice_bounds-parse_tile_info-start : goal.slice_bounds-parse_tile_info-start
+slice_bounds-parse_tile_info-start c = long c
+
+pub bounds-s-6 : goal.bounds-s-6
+bounds-s-6 c = omega (arith, long c)
+
+pub bounds-s-7 : goal.bounds-s-7
+bounds-s-7 c = omega (arith, long c)
+
+pub returns-then-is_request : goal.returns-then-is_request
+unfolding request_over
+returns-then-is_request c =
+    let t = c in
+    let a = t.args in
+    let s = a.s.now in
+    let m = c.multiplier-sbmul in
+    let w = c.samples-w in
+    let h = c.samples-h in
+    let rest : take (length s - 8) (drop 8 s) ≡ drop 8 s = take_all (length s - 8) (drop 8 s) (simp length-drop (omega arith)) in
+    c.parse_tile_info.ensures.value
+    ∙ ap (λ (x : List ℕ). read s x a.old (to_z w32 (of_z w32 m.result)) (to_z w32 (of_z w32 w.result)) (to_z w32 (of_z w32 h.result))) rest
+    ∙ ap (λ (x : ℤ). read s (drop 8 s) a.old x (to_z w32 (of_z w32 w.result)) (to_z w32 (of_z w32 h.result))) (back m.result m.type-inv ∙ m.ensures)
+    ∙ ap (λ (x : ℤ). read s (drop 8 s) a.old (pos (multiplier_of (get_or s 4 0) (get_or s 5 0))) x (to_z w32 (of_z w32 h.result))) (back w.result w.type-inv ∙ w.ensures)
+    ∙ ap (λ (x : ℤ). read s (drop 8 s) a.old (pos (multiplier_of (get_or s 4 0) (get_or s 5 0))) (pos (samples_at s 0)) x) (back h.result h.type-inv ∙ h.ensures)
+    ∙ sym (taken _ _ _ (sym t.is_request.ensures ∙ t.if-is_request.true))
+
+pub returns : goal.returns
+unfolding request_over
+returns c = sym (left _ _ _ (sym c.is_request.ensures ∙ c.if-is_request.false))

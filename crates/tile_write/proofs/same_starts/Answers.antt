@@ -1,0 +1,35 @@
+use mathlib.Core.Logic.{⊎_elim}
+use mathlib.Core.Path.{◌≡◌, sym}
+use Prim.Native.Nat.{◌-◌}
+use native.Mathlib.Omega.{arith}
+use Rattle.getbits.proofs.Places.{lt_or_le}
+use Rattle.layout_writing.proofs.Same.{starts_differ, starts_same}
+use Rattle.tile_write.proofs.same_starts.Goals as goal
+
+pub loop-i-init : goal.loop-i-init
+loop-i-init c = (omega arith, λ k h. absurd (omega arith))
+
+pub returns-then-a-i : goal.returns-then-a-i
+returns-then-a-i c =
+    let k = c in
+    let s = k in
+    sym (starts_differ s.args.a.now s.args.b.now k.loop-i.i c.if-a-i.true)
+
+pub loop-i-preserved : goal.loop-i-preserved
+loop-i-preserved c =
+    let k = c in
+    let l = k.loop-i in (
+      omega (arith, k.loop-i-test.true),
+      λ j h.
+          ⊎_elim (λ g. l.invariant.1 j g)
+          (λ g.
+          let e : j ≡ l.i = omega arith in
+          rw e c.if-a-i.false)
+          (lt_or_le j l.i),
+    )
+
+pub returns : goal.returns
+returns c =
+    let l = c in
+    let s = l in
+    sym (starts_same s.args.a.now s.args.b.now s.requires (λ k h. l.loop-i.invariant.1 k (omega (arith, c.loop-i-test.false))))

@@ -1,0 +1,34 @@
+use mathlib.Core.Path.{sym}
+use borrow.Author.Rules.{rules}
+use lib.Seq.{length-take-le}
+use Rattle.vectors.proofs.lend_header.Goals as goal
+
+pub held_at-a-requires : goal.held_at-a-requires
+held_at-a-requires c = tt
+
+pub held_at-b-requires : goal.held_at-b-requires
+held_at-b-requires c = tt
+
+pub held_at-c-requires : goal.held_at-c-requires
+held_at-c-requires c = tt
+
+pub held_at-d-requires : goal.held_at-d-requires
+held_at-d-requires c = tt
+
+pub u8_at-requires : goal.u8_at-requires
+u8_at-requires c = tt
+
+pub slice_bounds-mubanlig_parse_seq_hdr-end-2 : goal.slice_bounds-mubanlig_parse_seq_hdr-end-2
+slice_bounds-mubanlig_parse_seq_hdr-end-2 c = sym (length-take-le _ _ (search rules))
+
+pub slice_bounds-mubanlig_parse_seq_hdr-end-4 : goal.slice_bounds-mubanlig_parse_seq_hdr-end-4
+slice_bounds-mubanlig_parse_seq_hdr-end-4 c = sym (length-take-le _ _ (search rules))
+
+pub slice_bounds-mubanlig_parse_seq_hdr-end-6 : goal.slice_bounds-mubanlig_parse_seq_hdr-end-6
+slice_bounds-mubanlig_parse_seq_hdr-end-6 c = sym (length-take-le _ _ (search rules))
+
+pub slice_bounds-mubanlig_parse_seq_hdr-end-8 : goal.slice_bounds-mubanlig_parse_seq_hdr-end-8
+slice_bounds-mubanlig_parse_seq_hdr-end-8 c = sym (length-take-le _ _ (search rules))
+
+pub mubanlig_parse_seq_hdr-requires : goal.mubanlig_parse_seq_hdr-requires
+mubanlig_parse_seq_hdr-requires c = tt

@@ -1,0 +1,27 @@
+use mathlib.Core.Path.{sym, ◌∙◌}
+use native.Mathlib.Omega.{arith}
+use borrow.Author.Rules.{rules}
+use lib.Seq.{length-take-le}
+use Rattle.verdicts.proofs.Rows.{enough, few_stored, few_ours}
+use Rattle.verdicts.proofs.agrees.Goals as goal
+
+pub slice_bounds-all_same-end : goal.slice_bounds-all_same-end
+slice_bounds-all_same-end c = sym (length-take-le _ _ (search rules))
+
+pub slice_bounds-all_same-end-then-m-stored : goal.slice_bounds-all_same-end-then-m-stored
+slice_bounds-all_same-end-then-m-stored c = sym (length-take-le _ _ (search rules))
+
+pub returns-then-m-stored : goal.returns-then-m-stored
+returns-then-m-stored c =
+    let a = c.args in
+    c.All-same.ensures.0 ∙ enough a.ours.now a.n a.stored.now a.m (omega arith) (omega arith)
+
+pub returns-else-m-stored : goal.returns-else-m-stored
+returns-else-m-stored c =
+    let a = c.args in
+    few_stored a.ours.now a.n a.stored.now a.m (omega arith) (omega arith)
+
+pub returns-else-n-ours : goal.returns-else-n-ours
+returns-else-n-ours c =
+    let a = c.args in
+    few_ours a.ours.now a.n a.stored.now a.m (omega arith)

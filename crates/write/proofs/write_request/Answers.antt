@@ -1,0 +1,21 @@
+use mathlib.Core.Path.{◌≡◌}
+use Prim.Native.Nat.{◌-◌}
+use native.Mathlib.Omega.{arith}
+use lib.ListN.{length, take, drop, length-drop}
+use lib.Seq.{take_all}
+use Rattle.getbits.proofs.Widths.{back}
+use Rattle.write.proofs.write_request.Goals as goal
+
+pub returns : goal.returns
+returns c =
+    let p = c in
+    let height = p in
+    let width = height in
+    let pair = width in
+    let t = pair.given_layout-t in
+    let m = pair.multiplier-sbmul in
+    let w = width.samples-w in
+    let h = height.samples-h in
+    let s = pair.args.s.now in
+    let rest : take (length s - 8) (drop 8 s) ≡ drop 8 s = take_all (length s - 8) (drop 8 s) (simp length-drop (omega arith)) in
+    rw (back m.result m.type-inv, back w.result w.type-inv, back h.result h.type-inv, m.ensures, w.ensures, h.ensures, t.ensures, rest) at p.write_tile_info.ensures.out_after
