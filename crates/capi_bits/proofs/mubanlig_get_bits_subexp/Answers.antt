@@ -8,4 +8,4 @@ pub returns : goal.returns
 returns c =
     let k = c in
     let start = k in
-    rw (back c.hand_back_signed.result c.hand_back_signed.type-inv) (c.hand_back_signed.ensures ∙ ap (λ (x : Signed). lent_signed x start.args.error.now) (rw (to_z-of_z start.ranges.ref-val, k.place_of.ensures) at k.get_bits_subexp-r.ensures))
+    rw (back c.hand_back_signed.result c.hand_back_signed.type_inv) (c.hand_back_signed.ensures ∙ ap (λ (x : Signed). lent_signed x start.args.error.now) (rw (to_z-of_z start.ranges.ref-val, k.place_of.ensures) at k.get_bits_subexp-r.ensures))

@@ -1,7 +1,6 @@
-use Rattle.std.proofs.Common.{◌≡◌, ℕ, ◌^◌, ◌<◌, ◌≤◌, ltb, leb, ap, ◌∙◌, arith, ltb-true, leb-true}
+use Rattle.std.proofs.Common.{◌≡◌, ℕ, ◌^◌, ◌<◌, ◌≤◌, ap, ◌∙◌, arith}
 use Rattle.codes.proofs.Callers.{length_is}
 use Rattle.codes.specs.Codes.{bit_length}
-use Rattle.getbits.proofs.Chain.{both}
 use Rattle.getbits.specs.Bits.{look_at}
 use Rattle.getbits.specs.declared.Number.{Number}
 use Rattle.getbits.specs.declared.Place.{Place}
@@ -9,12 +8,6 @@ use Rattle.lent.specs.Lent.{place_of}
 use Rattle.capi_bits.specs.Numbers.{lent_number}
 use Rattle.capi_bits.proofs.Ahead.{uniform_short, uniform_long}
 use Rattle.capi_bits.proofs.mubanlig_get_uniform.Goals as goal
-
-known : (c : goal.Then-max) → (let max = c.args.max in (2 ≤ max) × (max < 2 ^ 31))
-known c =
-    let max = c.args.max in
-    let t = both (leb 2 max) (ltb max (2 ^ 31)) c.if-max.true in
-    (leb-true 2 max t.0, ltb-true max (2 ^ 31) t.1)
 
 -- the bits are there and have been looked at
 module _ (c : goal.After-look_ahead-w) where

@@ -37,13 +37,6 @@ place s = place_of s.args.position.now s.args.error.now
 abbrev known-type : goal.Start → Bool
 known-type s = is_known s.args.frame-type s.args.present
 
--- the buffers have room
-roomy : (k : goal.Else-not-has_room-2) → has_room (own k) && has_room (theirs k) ≡ true
-roomy k =
-    let e = k in
-    both_hold (sym e.has_room.ensures ∙ not-false e.has_room.result e.if-not-has_room.false)
-    (sym k.has_room-2.ensures ∙ not-false k.has_room-2.result k.if-not-has_room-2.false)
-
 pub returns-then-not-has_room : goal.returns-then-not-has_room
 returns-then-not-has_room c =
     let i = c in
@@ -65,18 +58,24 @@ returns-then-not-has_room-2 c =
 pub returns-then-not-is_known : goal.returns-then-not-is_known
 unfolding lent_frames
 returns-then-not-is_known c =
+    let roomy : has_room (own c) && has_room (theirs c) ≡ true = let e = c in
+    both_hold (sym e.has_room.ensures ∙ not-false e.has_room.result e.if-not-has_room.false)
+    (sym c.has_room-2.ensures ∙ not-false c.has_room-2.result c.if-not-has_room-2.false) in
     let b = c in
     let i = b in
     let k = i in
     let s = k in
     let unknown = sym i.is_Known.ensures ∙ not-true i.is_Known.result b.if-not-is_known.true in (
-      triple (row WrongArguments (settled s.args.s.now (place s)) s.args.error.now refl c.settle_place-then-not-is_known.ensures) refl refl ∙ sym (taken _ _ _ (roomy k) ∙ left _ _ _ unknown),
+      triple (row WrongArguments (settled s.args.s.now (place s)) s.args.error.now refl c.settle_place-then-not-is_known.ensures) refl refl ∙ sym (taken _ _ _ (roomy) ∙ left _ _ _ unknown),
       (λ _. refl, (λ _. refl, (λ _. refl, (λ _. refl, (λ _ h. contrary h unknown, λ h. contrary refl (accepted_by_0 WrongArguments h)))))),
     )
 
 pub returns : goal.returns
 unfolding lent_frames
 returns c =
+    let roomy : has_room (own c) && has_room (theirs c) ≡ true = let e = c in
+    both_hold (sym e.has_room.ensures ∙ not-false e.has_room.result e.if-not-has_room.false)
+    (sym c.has_room-2.ensures ∙ not-false c.has_room-2.result c.if-not-has_room-2.false) in
     let k = c in
     let n = k in
     let o = n in
@@ -90,7 +89,7 @@ returns c =
     let b = own s in
     let h = header s in
     let q = sequence s in
-    let has = roomy x in
+    let has = roomy in
     let known = sym g.is_Known.ensures ∙ not-false g.is_Known.result e.if-not-is_known.false in
     let sized = rw (to_z-of_z f.width, to_z-of_z f.height, to_z-of_z f.max-width, to_z-of_z f.max-height) at k.frame_layout_into-r.ensures.after_after in
     let into = rw (p.place_of-p.ensures, o.frame_type_of.ensures, n.present_of.ensures) at sized in

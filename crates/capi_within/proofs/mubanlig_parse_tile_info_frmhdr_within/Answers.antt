@@ -46,41 +46,8 @@ known-type s = is_known s.args.frame-type s.args.present
 abbrev limit : goal.Start → TileLimit
 limit s = limit_given s.args.max_cols s.args.max_rows
 
--- with the wall's limit the definition is the wall's
-on_wall : (s : goal.Start) → limit s ≡ wall
-    → lent_frame_within s.args.s.now s.args.position.now s.args.error.now (own s) (theirs s) (known-type s) (header s) (sequence s) (limit s)
-    ≡ lent_frame s.args.s.now s.args.position.now s.args.error.now (own s) (theirs s) (known-type s) (header s) (sequence s)
-on_wall s e =
-    frames_alike _ _ s.args.s.now s.args.position.now s.args.error.now s.args.sb128.now (own s) (theirs s) (known-type s)
-    ((limited_frame s.args.s.now (place s) (header s) (sequence s) (limit s)).as_on_wall e)
-
 abbrev start : goal.After-frame_layout_within-r → goal.Start
 start k = k.before.before.before.before.before.before.before.before.before.before.before.before.before.before.before.before.before.before.before.before.before.before.before.before.before.before
-
--- the buffers have room
-roomy : (k : goal.Else-not-has_room-2) → has_room (own k) && has_room (theirs k) ≡ true
-roomy k =
-    let e = k in
-    both_hold (sym e.has_room.ensures ∙ not-false e.has_room.result e.if-not-has_room.false)
-    (sym k.has_room-2.ensures ∙ not-false k.has_room-2.result k.if-not-has_room-2.false)
-
-room : (k : goal.After-frame_layout_within-r) → has_room (own (start k)) && has_room (theirs (start k)) ≡ true
-room k = roomy k
-
-known : (k : goal.After-frame_layout_within-r) → known-type (start k) ≡ true
-known k =
-    let e = k in
-    sym e.is_Known.ensures ∙ not-false e.is_Known.result e.if-not-is_known.false
-
-read : (k : goal.After-frame_layout_within-r) → k.frame_layout_within-r.result ≡ parse_tile_info_frmhdr_within (start k).args.s.now (place (start k)) (header (start k)) (sequence (start k)) (limit (start k))
-read k =
-    let s = start k in
-    rw (k.place_of-p.ensures, k.seq_given-seq.ensures, k.frame_given-hdr.ensures, to_z-of_z s.fits.width, to_z-of_z s.fits.height, to_z-of_z s.fits.max-width, to_z-of_z s.fits.max-height) at k.frame_layout_within-r.ensures.value
-
-promised : (k : goal.After-frame_layout_within-r) → LimitedFrame (start k).args.s.now (place (start k)) (header (start k)) (sequence (start k)) (limit (start k)) k.frame_layout_within-r.result
-promised k =
-    let s = start k in
-    subst (LimitedFrame s.args.s.now (place s) (header s) (sequence s) (limit s)) (sym (read k)) (limited_frame s.args.s.now (place s) (header s) (sequence s) (limit s))
 
 -- what the definition says, once the layout is read
 meaning : (k : goal.After-frame_layout_within-r)
@@ -89,39 +56,66 @@ meaning : (k : goal.After-frame_layout_within-r)
 unfolding lent_frames
 meaning k = taken _ _ _ (room k) ∙ taken _ _ _ (known k) ∙ through _ _ (read k)
 
+room : (k : goal.After-slice_known-6-1) → has_room (own (start k)) && has_room (theirs (start k)) ≡ true
+room k = roomy k
+
+read : (k : goal.After-slice_known-6-1) → k.frame_layout_within-r.result ≡ parse_tile_info_frmhdr_within (start k).args.s.now (place (start k)) (header (start k)) (sequence (start k)) (limit (start k))
+read k =
+    let s = start k in
+    rw (k.place_of-p.ensures, k.seq_given-seq.ensures, k.frame_given-hdr.ensures, to_z-of_z s.fits.width, to_z-of_z s.fits.height, to_z-of_z s.fits.max-width, to_z-of_z s.fits.max-height) at k.frame_layout_within-r.ensures.value
+
+promised : (k : goal.After-slice_known-6-1) → LimitedFrame (start k).args.s.now (place (start k)) (header (start k)) (sequence (start k)) (limit (start k)) k.frame_layout_within-r.result
+promised k =
+    let s = start k in
+    subst (LimitedFrame s.args.s.now (place s) (header s) (sequence s) (limit s)) (sym (read k)) (limited_frame s.args.s.now (place s) (header s) (sequence s) (limit s))
+
 pub returns-then-not-has_room : goal.returns-then-not-has_room
 returns-then-not-has_room c =
+    let on_wall : limit c ≡ wall → lent_frame_within c.args.s.now c.args.position.now c.args.error.now (own c) (theirs c) (known-type c) (header c) (sequence c) (limit c) ≡ lent_frame c.args.s.now c.args.position.now c.args.error.now (own c) (theirs c) (known-type c) (header c) (sequence c) = λ e. frames_alike _ _ c.args.s.now c.args.position.now c.args.error.now c.args.sb128.now (own c) (theirs c) (known-type c)
+    ((limited_frame c.args.s.now (place c) (header c) (sequence c) (limit c)).as_on_wall e) in
     let i = c in
     let s = i in
     let a = s.args in
     let lacks = sym i.has_room.ensures ∙ not-true i.has_room.result i.if-not-has_room.true in
     let fails = first_fails _ (has_room (theirs s)) lacks in
     let e = frames_short a.s.now a.position.now a.error.now c.settle_place.ensures _ a.sb128.now (own s) (theirs s) (known-type s) fails in
-    (e, (λ _. refl, (λ _. refl, (λ _. refl, (λ _. refl, (λ h _. contrary h fails, (λ h. contrary refl (accepted_by_0 ShortBuffer h), (λ w. e ∙ on_wall s w, λ h. contrary refl (accepted_by_0 ShortBuffer h)))))))))
+    (e, (λ _. refl, (λ _. refl, (λ _. refl, (λ _. refl, (λ h _. contrary h fails, (λ h. contrary refl (accepted_by_0 ShortBuffer h), (λ w. e ∙ on_wall w, λ h. contrary refl (accepted_by_0 ShortBuffer h)))))))))
 
 pub returns-then-not-has_room-2 : goal.returns-then-not-has_room-2
 returns-then-not-has_room-2 c =
+    let on_wall : limit c ≡ wall → lent_frame_within c.args.s.now c.args.position.now c.args.error.now (own c) (theirs c) (known-type c) (header c) (sequence c) (limit c) ≡ lent_frame c.args.s.now c.args.position.now c.args.error.now (own c) (theirs c) (known-type c) (header c) (sequence c) = λ e. frames_alike _ _ c.args.s.now c.args.position.now c.args.error.now c.args.sb128.now (own c) (theirs c) (known-type c)
+    ((limited_frame c.args.s.now (place c) (header c) (sequence c) (limit c)).as_on_wall e) in
     let i = c in
     let s = i in
     let a = s.args in
     let lacks = sym i.has_room-2.ensures ∙ not-true i.has_room-2.result i.if-not-has_room-2.true in
     let fails = second_fails (has_room (own s)) _ lacks in
     let e = frames_short a.s.now a.position.now a.error.now c.settle_place-then-not-has_room-2.ensures _ a.sb128.now (own s) (theirs s) (known-type s) fails in
-    (e, (λ _. refl, (λ _. refl, (λ _. refl, (λ _. refl, (λ h _. contrary h fails, (λ h. contrary refl (accepted_by_0 ShortBuffer h), (λ w. e ∙ on_wall s w, λ h. contrary refl (accepted_by_0 ShortBuffer h)))))))))
+    (e, (λ _. refl, (λ _. refl, (λ _. refl, (λ _. refl, (λ h _. contrary h fails, (λ h. contrary refl (accepted_by_0 ShortBuffer h), (λ w. e ∙ on_wall w, λ h. contrary refl (accepted_by_0 ShortBuffer h)))))))))
 
 pub returns-then-not-is_known : goal.returns-then-not-is_known
 unfolding lent_frames
 returns-then-not-is_known c =
+    let on_wall : limit c ≡ wall → lent_frame_within c.args.s.now c.args.position.now c.args.error.now (own c) (theirs c) (known-type c) (header c) (sequence c) (limit c) ≡ lent_frame c.args.s.now c.args.position.now c.args.error.now (own c) (theirs c) (known-type c) (header c) (sequence c) = λ e. frames_alike _ _ c.args.s.now c.args.position.now c.args.error.now c.args.sb128.now (own c) (theirs c) (known-type c)
+    ((limited_frame c.args.s.now (place c) (header c) (sequence c) (limit c)).as_on_wall e) in
+    let roomy : has_room (own c) && has_room (theirs c) ≡ true = let e = c in
+    both_hold (sym e.has_room.ensures ∙ not-false e.has_room.result e.if-not-has_room.false)
+    (sym c.has_room-2.ensures ∙ not-false c.has_room-2.result c.if-not-has_room-2.false) in
     let b = c in
     let i = b in
     let k = i in
     let s = k in
     let unknown = sym i.is_Known.ensures ∙ not-true i.is_Known.result b.if-not-is_known.true in
-    let e = triple (row WrongArguments (settled s.args.s.now (place s)) s.args.error.now refl c.settle_place-then-not-is_known.ensures) refl refl ∙ sym (taken _ _ _ (roomy k) ∙ left _ _ _ unknown) in
-    (e, (λ _. refl, (λ _. refl, (λ _. refl, (λ _. refl, (λ _ h. contrary h unknown, (λ h. contrary refl (accepted_by_0 WrongArguments h), (λ w. e ∙ on_wall s w, λ h. contrary refl (accepted_by_0 WrongArguments h)))))))))
+    let e = triple (row WrongArguments (settled s.args.s.now (place s)) s.args.error.now refl c.settle_place-then-not-is_known.ensures) refl refl ∙ sym (taken _ _ _ (roomy) ∙ left _ _ _ unknown) in
+    (e, (λ _. refl, (λ _. refl, (λ _. refl, (λ _. refl, (λ _ h. contrary h unknown, (λ h. contrary refl (accepted_by_0 WrongArguments h), (λ w. e ∙ on_wall w, λ h. contrary refl (accepted_by_0 WrongArguments h)))))))))
 
 pub returns : goal.returns
 returns c =
+    let on_wall : limit c ≡ wall → lent_frame_within c.args.s.now c.args.position.now c.args.error.now (own c) (theirs c) (known-type c) (header c) (sequence c) (limit c) ≡ lent_frame c.args.s.now c.args.position.now c.args.error.now (own c) (theirs c) (known-type c) (header c) (sequence c) = λ e. frames_alike _ _ c.args.s.now c.args.position.now c.args.error.now c.args.sb128.now (own c) (theirs c) (known-type c)
+    ((limited_frame c.args.s.now (place c) (header c) (sequence c) (limit c)).as_on_wall e) in
+    let roomy : has_room (own c) && has_room (theirs c) ≡ true = let e = c in
+    both_hold (sym e.has_room.ensures ∙ not-false e.has_room.result e.if-not-has_room.false)
+    (sym c.has_room-2.ensures ∙ not-false c.has_room-2.result c.if-not-has_room-2.false) in
     let d = c in
     let k = d in
     let s = start k in

@@ -34,31 +34,8 @@ asked s = args_of s.args.sbmul s.args.sb128 s.args.seq-sb128 s.args.w s.args.h s
 abbrev limit : goal.Start → TileLimit
 limit s = limit_given s.args.max_cols s.args.max_rows
 
--- with the wall's limit the definition is the wall's
-on_wall : (s : goal.Start) → limit s ≡ wall
-    → lent_tile_info_within s.args.s.now s.args.position.now s.args.error.now (given s) (asked s) (limit s)
-    ≡ lent_tile_info s.args.s.now s.args.position.now s.args.error.now (given s) (asked s)
-on_wall s e =
-    tiles_alike _ _ s.args.s.now s.args.position.now s.args.error.now (given s) ((limited_tiles s.args.s.now (place s) (layout_in (given s)) (asked s) (limit s)).as_on_wall e)
-
 abbrev start : goal.After-parse_tile_info_within-r → goal.Start
 start k = k.before.before.before.before.before.before.before.before.before.before.before.before.before.before.before.before.before
-
-has : (k : goal.After-parse_tile_info_within-r) → has_room (given (start k)) ≡ true
-has k =
-    let e = k in
-    sym e.has_room.ensures ∙ not-false e.has_room.result e.if-not-has_room.false
-
-read : (k : goal.After-parse_tile_info_within-r) → k.parse_tile_info_within-r.result ≡ parse_tile_info_within (start k).args.s.now (place (start k)) (layout_in (given (start k))) (asked (start k)) (limit (start k))
-read k =
-    let s = start k in
-    rw (to_z-of_z s.fits.sbmul, to_z-of_z s.fits.w, to_z-of_z s.fits.h, k.place_of-p.ensures, k.tile_info_of-thdr.ensures) at k.parse_tile_info_within-r.ensures.value
-
-promised : (k : goal.After-parse_tile_info_within-r) → LimitedTiles (start k).args.s.now (place (start k)) (layout_in (given (start k))) (asked (start k)) (limit (start k)) k.parse_tile_info_within-r.result
-promised k =
-    let s = start k in
-    subst (LimitedTiles s.args.s.now (place s) (layout_in (given s)) (asked s) (limit s)) (sym (read k))
-    (limited_tiles s.args.s.now (place s) (layout_in (given s)) (asked s) (limit s))
 
 -- what the definition says, once the layout is read
 meaning : (k : goal.After-parse_tile_info_within-r)
@@ -67,16 +44,34 @@ meaning : (k : goal.After-parse_tile_info_within-r)
 unfolding lent_tiles
 meaning k = taken _ _ _ (has k) ∙ through _ _ (read k)
 
+has : (k : goal.After-slice_known-6-1) → has_room (given (start k)) ≡ true
+has k =
+    let e = k in
+    sym e.has_room.ensures ∙ not-false e.has_room.result e.if-not-has_room.false
+
+read : (k : goal.After-slice_known-6-1) → k.parse_tile_info_within-r.result ≡ parse_tile_info_within (start k).args.s.now (place (start k)) (layout_in (given (start k))) (asked (start k)) (limit (start k))
+read k =
+    let s = start k in
+    rw (to_z-of_z s.fits.sbmul, to_z-of_z s.fits.w, to_z-of_z s.fits.h, k.place_of-p.ensures, k.tile_info_of-thdr.ensures) at k.parse_tile_info_within-r.ensures.value
+
+promised : (k : goal.After-slice_known-6-1) → LimitedTiles (start k).args.s.now (place (start k)) (layout_in (given (start k))) (asked (start k)) (limit (start k)) k.parse_tile_info_within-r.result
+promised k =
+    let s = start k in
+    subst (LimitedTiles s.args.s.now (place s) (layout_in (given s)) (asked s) (limit s)) (sym (read k))
+    (limited_tiles s.args.s.now (place s) (layout_in (given s)) (asked s) (limit s))
+
 pub returns-then-not-has_room : goal.returns-then-not-has_room
 returns-then-not-has_room c =
+    let on_wall : limit c ≡ wall → lent_tile_info_within c.args.s.now c.args.position.now c.args.error.now (given c) (asked c) (limit c) ≡ lent_tile_info c.args.s.now c.args.position.now c.args.error.now (given c) (asked c) = λ e. tiles_alike _ _ c.args.s.now c.args.position.now c.args.error.now (given c) ((limited_tiles c.args.s.now (place c) (layout_in (given c)) (asked c) (limit c)).as_on_wall e) in
     let i = c in
     let s = i in
     let lacks = sym i.has_room.ensures ∙ not-true i.has_room.result i.if-not-has_room.true in
     let e = tiles_short s.args.s.now s.args.position.now s.args.error.now c.settle_place.ensures _ (given s) lacks in
-    (e, (λ _. refl, (λ _. refl, (λ _. refl, (λ h. contrary h lacks, (λ h. contrary refl (accepted_by_0 ShortBuffer h), (λ w. e ∙ on_wall s w, λ h. contrary refl (accepted_by_0 ShortBuffer h))))))))
+    (e, (λ _. refl, (λ _. refl, (λ _. refl, (λ h. contrary h lacks, (λ h. contrary refl (accepted_by_0 ShortBuffer h), (λ w. e ∙ on_wall w, λ h. contrary refl (accepted_by_0 ShortBuffer h))))))))
 
 pub returns : goal.returns
 returns c =
+    let on_wall : limit c ≡ wall → lent_tile_info_within c.args.s.now c.args.position.now c.args.error.now (given c) (asked c) (limit c) ≡ lent_tile_info c.args.s.now c.args.position.now c.args.error.now (given c) (asked c) = λ e. tiles_alike _ _ c.args.s.now c.args.position.now c.args.error.now (given c) ((limited_tiles c.args.s.now (place c) (layout_in (given c)) (asked c) (limit c)).as_on_wall e) in
     let d = c in
     let k = d in
     let s = start k in

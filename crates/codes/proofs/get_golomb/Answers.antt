@@ -24,11 +24,6 @@ golomb_lt c k h =
     let f = mul-le-mul_right {m = c + 1} {n = 2 ^ (32 - k)} (2 ^ k) (omega (arith, below_power (32 - k))) in
     omega (arith, f, sym (pow-add 2 (32 - k) k) ∙ ap (λ (x : ℕ). 2 ^ x) e, add-mul c 1 (2 ^ k))
 
-ones : (r : goal.After-run-c) → (let a = r.args in r.run-c.result.value ≤ 32 - a.k)
-ones r =
-    let a = r.args in
-    omega (arith, run_le 1 (32 - a.k) a.s.now a.p, ap (λ (x : Number). x.value) r.run-c.ensures)
-
 module _ (k : goal.After-power) where
   abbrev run : goal.After-run-c
   run = k
@@ -48,6 +43,11 @@ module _ (k : goal.After-power) where
   bounded : run.run.result.value * k.power.result + k.power.result ≤ 2 ^ 32
   bounded =
       omega (arith, golomb_lt run.run.result.value width (omega (arith, ones run, run, k.if-bits-k-eq32.left)), twos, ap (λ (x : ℕ). run.run.result.value * x) twos)
+
+ones : (r : goal.After-q-1) → (let a = r.args in r.run-c.result.value ≤ 32 - a.k)
+ones r =
+    let a = r.args in
+    omega (arith, run_le 1 (32 - a.k) a.s.now a.p, ap (λ (x : Number). x.value) r.run-c.ensures)
 
 pub returns-then-k-ge32 : goal.returns-then-k-ge32
 unfolding get_golomb

@@ -81,7 +81,7 @@ overflow_shr-w c = omega arith
 
 -- the first bits of the word fit again
 pub overflow_cast-w-3 : goal.overflow_cast-w-3
-overflow_cast-w-3 c = lt_of_le_of_lt (div-le_self c.args.word (2 ^ (32 - c.uniform_forms-f.result.bits))) c.ranges.word.fits
+overflow_cast-w-3 c = record { fits = lt_of_le_of_lt (div-le_self c.args.word (2 ^ (32 - c.uniform_forms-f.result.bits))) c.ranges.word.fits }
 
 pub returns-then-w-f : goal.returns-then-w-f
 returns-then-w-f c =

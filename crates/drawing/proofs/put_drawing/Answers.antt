@@ -26,73 +26,76 @@ zeros = replicate 16384 0
 roomy : 16384 ≤ length zeros
 roomy = let none : ℕ = 0 in omega (arith, length-replicate 16384 none)
 
--- the answer and the numbers after the call
-called : (k : goal.After-tile_rectangles-answer) → let a = k.args in
-    (k.tile_rectangles-answer.result, k.tile_rectangles-answer.new.1.1.1.1.0) ≡ tile_rectangles a.t a.sb128 (unsigned a.w) (unsigned a.h) zeros
-called k = let f = k.ranges in rw (to_z-of_z f.w, to_z-of_z f.h) at k.tile_rectangles-answer.ensures.out_after
-
--- the test of the answer is one of the layout
-asked : (k : goal.After-is_refusal) → let a = k.args in k.is_refusal.result ≡ not (has_rectangles a.t a.sb128 (unsigned a.w) (unsigned a.h))
-asked k = let a = k.args in
-    k.is_refusal.ensures ∙ ap (λ (z : Answer × List ℕ). is_refusal z.0) (called k) ∙ refuses a.t a.sb128 (unsigned a.w) (unsigned a.h) zeros roomy
-
-has : (k : goal.Else-is_refusal) → let a = k.args in has_rectangles a.t a.sb128 (unsigned a.w) (unsigned a.h) ≡ true
-has k = not-false _ (sym (asked k) ∙ k.if-is_refusal.false)
-
--- the numbers after it
-written : (k : goal.Else-is_refusal) → let a = k.args in
-    k.tile_rectangles-answer.new.1.1.1.1.0 ≡ rectangles a.t a.sb128 (unsigned a.w) (unsigned a.h) ++ drop (rectangle_numbers a.t) zeros
-written k =
-    let a = k.args in
-    ap (λ (z : Answer × List ℕ). z.1) (called k ∙ accepted a.t a.sb128 (unsigned a.w) (unsigned a.h) zeros roomy (has k))
-
 pub returns-then-is_refusal : goal.returns-then-is_refusal
 unfolding drawing_text
 returns-then-is_refusal c =
+    let called : let a = c.args in (c.tile_rectangles-answer.result, c.tile_rectangles-answer.new.1.1.1.1.0) ≡ tile_rectangles a.t a.sb128 (unsigned a.w) (unsigned a.h) zeros = let f = c.ranges in rw (to_z-of_z f.w, to_z-of_z f.h) at c.tile_rectangles-answer.ensures.out_after in
+    let asked : let a = c.args in c.is_refusal.result ≡ not (has_rectangles a.t a.sb128 (unsigned a.w) (unsigned a.h)) = let a = c.args in
+    c.is_refusal.ensures ∙ ap (λ (z : Answer × List ℕ). is_refusal z.0) (called) ∙ refuses a.t a.sb128 (unsigned a.w) (unsigned a.h) zeros roomy in
     let a = c.args in
-    let none = not-true (has_rectangles a.t a.sb128 (unsigned a.w) (unsigned a.h)) (sym (asked c) ∙ c.if-is_refusal.true) in
+    let none = not-true (has_rectangles a.t a.sb128 (unsigned a.w) (unsigned a.h)) (sym (asked) ∙ c.if-is_refusal.true) in
     rw none (within (omega arith) c.put_refusal.ensures)
 
 pub view_of-v-requires : goal.view_of-v-requires
 view_of-v-requires c =
+    let called : let a = c.args in (c.tile_rectangles-answer.result, c.tile_rectangles-answer.new.1.1.1.1.0) ≡ tile_rectangles a.t a.sb128 (unsigned a.w) (unsigned a.h) zeros = let f = c.ranges in rw (to_z-of_z f.w, to_z-of_z f.h) at c.tile_rectangles-answer.ensures.out_after in
+    let asked : let a = c.args in c.is_refusal.result ≡ not (has_rectangles a.t a.sb128 (unsigned a.w) (unsigned a.h)) = let a = c.args in
+    c.is_refusal.ensures ∙ ap (λ (z : Answer × List ℕ). is_refusal z.0) (called) ∙ refuses a.t a.sb128 (unsigned a.w) (unsigned a.h) zeros roomy in
+    let has : let a = c.args in has_rectangles a.t a.sb128 (unsigned a.w) (unsigned a.h) ≡ true = not-false _ (sym (asked) ∙ c.if-is_refusal.false) in
     let k = c in
     let s = c in
     let a = s.args in
-    let sizes = frame_sizes a.t a.sb128 (unsigned a.w) (unsigned a.h) (has k) in
+    let sizes = frame_sizes a.t a.sb128 (unsigned a.w) (unsigned a.h) (has) in
     (rw (c.not_below_0.ensures, to_z-of_z s.ranges.w) sizes.0, rw (c.not_below_0-2.ensures, to_z-of_z s.ranges.h) sizes.1)
 
 pub side_of-requires : goal.side_of-requires
 side_of-requires c =
+    let called : let a = c.args in (c.tile_rectangles-answer.result, c.tile_rectangles-answer.new.1.1.1.1.0) ≡ tile_rectangles a.t a.sb128 (unsigned a.w) (unsigned a.h) zeros = let f = c.ranges in rw (to_z-of_z f.w, to_z-of_z f.h) at c.tile_rectangles-answer.ensures.out_after in
+    let asked : let a = c.args in c.is_refusal.result ≡ not (has_rectangles a.t a.sb128 (unsigned a.w) (unsigned a.h)) = let a = c.args in
+    c.is_refusal.ensures ∙ ap (λ (z : Answer × List ℕ). is_refusal z.0) (called) ∙ refuses a.t a.sb128 (unsigned a.w) (unsigned a.h) zeros roomy in
+    let has : let a = c.args in has_rectangles a.t a.sb128 (unsigned a.w) (unsigned a.h) ≡ true = not-false _ (sym (asked) ∙ c.if-is_refusal.false) in
     let k = c in
     let a = c.args in
-    (described a.t a.sb128 (unsigned a.w) (unsigned a.h) (has k)).small_code
+    (described a.t a.sb128 (unsigned a.w) (unsigned a.h) (has)).small_code
 
 pub put_picture-requires : goal.put_picture-requires
 put_picture-requires c =
+    let called : let a = c.args in (c.tile_rectangles-answer.result, c.tile_rectangles-answer.new.1.1.1.1.0) ≡ tile_rectangles a.t a.sb128 (unsigned a.w) (unsigned a.h) zeros = let f = c.ranges in rw (to_z-of_z f.w, to_z-of_z f.h) at c.tile_rectangles-answer.ensures.out_after in
+    let asked : let a = c.args in c.is_refusal.result ≡ not (has_rectangles a.t a.sb128 (unsigned a.w) (unsigned a.h)) = let a = c.args in
+    c.is_refusal.ensures ∙ ap (λ (z : Answer × List ℕ). is_refusal z.0) (called) ∙ refuses a.t a.sb128 (unsigned a.w) (unsigned a.h) zeros roomy in
+    let has : let a = c.args in has_rectangles a.t a.sb128 (unsigned a.w) (unsigned a.h) ≡ true = not-false _ (sym (asked) ∙ c.if-is_refusal.false) in
+    let written : let a = c.args in c.tile_rectangles-answer.new.1.1.1.1.0 ≡ rectangles a.t a.sb128 (unsigned a.w) (unsigned a.h) ++ drop (rectangle_numbers a.t) zeros = let a = c.args in
+    ap (λ (z : Answer × List ℕ). z.1) (called ∙ accepted a.t a.sb128 (unsigned a.w) (unsigned a.h) zeros roomy (has)) in
     let k = c in
     let a = c.args in
     let t = a.t in
     let w = unsigned a.w in
     let h = unsigned a.h in
-    let d = described t a.sb128 w h (has k) in (
+    let d = described t a.sb128 w h (has) in (
       c.view_of-v.ensures.1,
       c.side_of.ensures.1,
       d.some_cols,
       d.most_cols,
       d.some_rows,
       d.most_rows,
-      omega (arith, ap length (written k), length-append (rectangles t a.sb128 w h) (drop (rectangle_numbers t) zeros), long t a.sb128 w h, mul_comm t.cols t.rows),
+      omega (arith, ap length (written), length-append (rectangles t a.sb128 w h) (drop (rectangle_numbers t) zeros), long t a.sb128 w h, mul_comm t.cols t.rows),
     )
 
 pub returns : goal.returns
 unfolding drawing_text
 returns c =
+    let called : let a = c.args in (c.tile_rectangles-answer.result, c.tile_rectangles-answer.new.1.1.1.1.0) ≡ tile_rectangles a.t a.sb128 (unsigned a.w) (unsigned a.h) zeros = let f = c.ranges in rw (to_z-of_z f.w, to_z-of_z f.h) at c.tile_rectangles-answer.ensures.out_after in
+    let asked : let a = c.args in c.is_refusal.result ≡ not (has_rectangles a.t a.sb128 (unsigned a.w) (unsigned a.h)) = let a = c.args in
+    c.is_refusal.ensures ∙ ap (λ (z : Answer × List ℕ). is_refusal z.0) (called) ∙ refuses a.t a.sb128 (unsigned a.w) (unsigned a.h) zeros roomy in
+    let has : let a = c.args in has_rectangles a.t a.sb128 (unsigned a.w) (unsigned a.h) ≡ true = not-false _ (sym (asked) ∙ c.if-is_refusal.false) in
+    let written : let a = c.args in c.tile_rectangles-answer.new.1.1.1.1.0 ≡ rectangles a.t a.sb128 (unsigned a.w) (unsigned a.h) ++ drop (rectangle_numbers a.t) zeros = let a = c.args in
+    ap (λ (z : Answer × List ℕ). z.1) (called ∙ accepted a.t a.sb128 (unsigned a.w) (unsigned a.h) zeros roomy (has)) in
     let k = c in
     let s = c in
     let a = s.args in
     let t = a.t in
     let w = unsigned a.w in
     let h = unsigned a.h in
-    let d = described t a.sb128 w h (has k) in
-    rw (has k, ← same_picture _ _ _ t _ _ d.some_cols d.some_rows (rects_of t a.sb128 w h _ _ (written k)))
+    let d = described t a.sb128 w h (has) in
+    rw (has, ← same_picture _ _ _ t _ _ d.some_cols d.some_rows (rects_of t a.sb128 w h _ _ (written)))
     (rw (c.view_of-v.ensures.0, c.not_below_0.ensures, c.not_below_0-2.ensures, to_z-of_z s.ranges.w, to_z-of_z s.ranges.h, c.side_of.ensures.0) at c.put_picture.ensures)

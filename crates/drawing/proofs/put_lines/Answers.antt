@@ -7,7 +7,7 @@ use Rattle.text.proofs.Puts.{also}
 use Rattle.drawing.proofs.put_lines.Goals as goal
 
 -- where superblock i ends
-ends : (s : goal.Start) → s.args.side * (s.args.i + 1) ≤ 16384
+ends : (s : goal.After-slice_known-1) → s.args.side * (s.args.i + 1) ≤ 16384
 ends s = let h : s.args.i + 1 ≤ 64 = omega (arith, s.requires.2) in mul-le-mul s.requires.1 h
 
 pub overflow_mul-n : goal.overflow_mul-n

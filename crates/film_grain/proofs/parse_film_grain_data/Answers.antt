@@ -25,7 +25,7 @@ lists c =
     point_lists (not mono.is-mono.result && not from-luma.flag-if.result.value) mono.before.before.args.s.now from-luma.flag-if.result.next
 
 -- the questions that they answer
-asked : (c : goal.After-one_list_empty) → let l = c in
+asked : (c : goal.After-refuse_grain) → let l = c in
     l.point_lists-lists.result.refused || c.one_list_empty.result ≡ (lists l).refused || one_list_empty l.args.layout (lists l).num_points
 asked c =
     let l = c in

@@ -21,7 +21,7 @@ returns-then-has_room c =
     let t = s.args.t in
     let has : has_room (given s) ≡ true = sym k.has_room.ensures ∙ k.if-has_room.true in
     let put = put_over t (given s) has i.put_layout_bytes.ensures q.put_starts.ensures r.put_starts-then-has_room.ensures in
-    (put, λ h. ap layout_in put ∙ comes_back t (given s) (cols_length t _ s.well-formed.0) (rows_length t _ s.well-formed.0) h)
+    (put, λ h. ap layout_in put ∙ comes_back t (given s) (cols_length t _ s.well_formed.0) (rows_length t _ s.well_formed.0) h)
 
 pub returns-else-has_room : goal.returns-else-has_room
 unfolding put_layout

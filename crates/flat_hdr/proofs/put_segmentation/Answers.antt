@@ -5,20 +5,22 @@ use Rattle.flat.proofs.Rows.{both}
 use Rattle.flat_hdr.specs.Header.{flat_segmentation}
 use Rattle.flat_hdr.proofs.put_segmentation.Goals as goal
 
-delta_length : (s : goal.Start) → length s.args.s.d.delta_q ≡ 16
-delta_length s = sym (length-map s.args.s.d.delta_q (λ x. x)) ∙ s.well-formed.1.1.0.1.1.1.1.1.0.1.1.0.1.0.1
-
 pub put_deltas-at-requires : goal.put_deltas-at-requires
-put_deltas-at-requires c = omega (arith, delta_length c)
+put_deltas-at-requires c =
+    let delta_length : length c.args.s.d.delta_q ≡ 16 = sym (length-map c.args.s.d.delta_q (λ x. x)) ∙ c.well_formed.1.1.0.1.1.1.1.1.0.1.1.0.1.0.1 in
+    omega (arith, delta_length)
 
 pub put_masks-requires : goal.put_masks-requires
-put_masks-requires c = omega (arith, delta_length c)
+put_masks-requires c =
+    let delta_length : length c.args.s.d.delta_q ≡ 16 = sym (length-map c.args.s.d.delta_q (λ x. x)) ∙ c.well_formed.1.1.0.1.1.1.1.1.0.1.1.0.1.0.1 in
+    omega (arith, delta_length)
 
 pub returns : goal.returns
 unfolding flat_segmentation
 returns c =
+    let delta_length : length c.args.s.d.delta_q ≡ 16 = sym (length-map c.args.s.d.delta_q (λ x. x)) ∙ c.well_formed.1.1.0.1.1.1.1.1.0.1.1.0.1.0.1 in
     let k3 = c in
     let k2 = k3 in
     let k1 = k2 in
     let s = k1 in
-    both (both k1.put_bytes-at.ensures (rw (delta_length s) at k2.put_deltas-at.ensures) (omega (arith, s.requires))) k3.put_masks.ensures (omega (arith, s.requires))
+    both (both k1.put_bytes-at.ensures (rw (delta_length) at k2.put_deltas-at.ensures) (omega (arith, s.requires))) k3.put_masks.ensures (omega (arith, s.requires))

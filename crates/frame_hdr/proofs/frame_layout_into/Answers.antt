@@ -41,15 +41,6 @@ sequence s =
 abbrev start : goal.Else-not-has_room-2 → goal.Start
 start e = e.before.before.before.before.before.before.before.before.before.before.before.before.before.before
 
--- the buffers have room
-own_room : (e : goal.Else-not-has_room-2) → has_room (own (start e)) ≡ true
-own_room e =
-    let o = e in
-    sym o.has_room.ensures ∙ not-false o.has_room.result o.if-not-has_room.false
-
-their_room : (e : goal.Else-not-has_room-2) → has_room (theirs (start e)) ≡ true
-their_room e = sym e.has_room-2.ensures ∙ not-false e.has_room-2.result e.if-not-has_room-2.false
-
 abbrev roomy : (e : goal.Else-not-has_room-2) → Room (theirs (start e))
 roomy e = room (theirs (start e)) (their_room e)
 
@@ -60,52 +51,14 @@ all_three e f g = rw (e, f, g) refl
 abbrev checked : goal.After-is_usable-usable → goal.Else-not-has_room-2
 checked u = u.before.before.before
 
-asked : (u : goal.After-is_usable-usable) → u.is_extent.result && u.is_extent-2.result && u.is_usable-usable.result
-    ≡ in_frame_domain (header (start (checked u))) (sequence (start (checked u)))
-unfolding in_frame_domain
-asked u =
-    let f = (start (checked u)).ranges in
-    all_three (rw (to_z-of_z f.width) at u.is_extent.ensures) (rw (to_z-of_z f.height) at u.is_extent-2.ensures)
-    (rw (to_z-of_z f.max-width, to_z-of_z f.max-height) at u.is_usable-usable.ensures)
-
 abbrev begin : goal.Else-not-sized-usable → goal.Start
 begin k = start (checked k.before)
-
-inside : (k : goal.Else-not-sized-usable) → in_frame_domain (header (begin k)) (sequence (begin k)) ≡ true
-inside k = sym (asked k) ∙ not-false _ k.if-not-sized-usable.false
-
-fit : (k : goal.Else-not-sized-usable) → usable (sequence (begin k)) ≡ true
-fit k = frame_usable (header (begin k)) (sequence (begin k)) (inside k)
-
--- what the layout is read for
-made : (c : goal.After-frame_args-a) → c.frame_args-a.result ≡ frame_args (header (begin c)) (sequence (begin c))
-made c =
-    let f = (begin c).ranges in
-    rw (to_z-of_z f.width, to_z-of_z f.height) at c.frame_args-a.ensures
-
-in_domain_lem : (c : goal.After-frame_args-a) → in_domain c.frame_args-a.result ≡ true
-in_domain_lem c = ap in_domain (made c) ∙ frame_in_domain (header (begin c)) (sequence (begin c)) (inside c)
-
--- a layout whose counts and starts are small, in its buffers
-in_buffers : (e : goal.Else-not-has_room-2) → Tiled (sequence (start e)).t → Tiled (Held (theirs (start e)))
-in_buffers e = subst Tiled (held (theirs (start e)) (their_room e))
 
 -- the question of reuse
 abbrev args : goal.After-reuse_allowed-allowed → goal.After-frame_args-a
 args r = r.before.before.before.before.before
 
-allowed : (r : goal.After-reuse_allowed-allowed) → r.reuse_allowed-allowed.result ≡ reuse_allowed (args r).frame-args.result (sequence (begin (args r).before))
-allowed r =
-    let s = begin (args r).before in
-    let q = sequence s in
-    rw (r.is_set.ensures, to_z-of_z s.fits.max-width, to_z-of_z s.fits.max-height) at r.reuse_allowed-allowed.ensures
-    ∙ allowed_in (args r).frame-args.result q (theirs s) (their_room (checked (args r).before.before)) refl (ap (λ (x : TileArgs). x.seq_code) (made (args r)))
-
-answered : (f : goal.After-read_reuse-reuse) → f.read_reuse-reuse.result ≡ read_reuse (bytes (begin (args f).before)) (begin (args f).before).args.p (args f).frame-args.result (sequence (begin (args f).before))
-unfolding read_reuse
-answered f = rw (allowed f) at f.read_reuse-reuse.ensures
-
-tiled : (f : goal.After-read_reuse-reuse) → f.read_reuse-reuse.result.value ≡ true → Tiled (Held (theirs (begin (args f).before)))
+tiled : (f : goal.After-reused_layout-arg-then-reuse-2-1) → f.read_reuse-reuse.result.value ≡ true → Tiled (Held (theirs (begin (args f).before)))
 tiled f v =
     let k = (args f).before in
     let s = begin k in
@@ -138,28 +91,62 @@ is_usable-usable-requires c =
     (r.bytes, r.cols, r.rows)
 
 pub returns-then-not-sized-usable : goal.returns-then-not-sized-usable
-unfolding parse_tile_info_frmhdr_into parse_tile_info_frmhdr
+unfolding parse_tile_info_frmhdr_into parse_tile_info_frmhdr in_frame_domain
 returns-then-not-sized-usable c =
+    let own_room : has_room (own (start c)) ≡ true = let o = c in
+    sym o.has_room.ensures ∙ not-false o.has_room.result o.if-not-has_room.false in
+    let their_room : has_room (theirs (start c)) ≡ true = sym c.has_room-2.ensures ∙ not-false c.has_room-2.result c.if-not-has_room-2.false in
+    let asked : c.is_extent.result && c.is_extent-2.result && c.is_usable-usable.result ≡ in_frame_domain (header (start (checked c))) (sequence (start (checked c))) = let f = (start (checked c)).ranges in
+    all_three (rw (to_z-of_z f.width) at c.is_extent.ensures) (rw (to_z-of_z f.height) at c.is_extent-2.ensures)
+    (rw (to_z-of_z f.max-width, to_z-of_z f.max-height) at c.is_usable-usable.ensures) in
     let b = c in
     let u = b in
     let e = checked u in
     let s = start e in
-    let out = sym (asked u) ∙ not-true _ b.if-not-sized-usable.true in
+    let out = sym (asked) ∙ not-true _ b.if-not-sized-usable.true in
     what-is-left (bytes s) s.args.p (own s) (theirs s) (header s) (sequence s) refl
     (rw c.unread-then-not-sized-usable.ensures (sym (taken _ _ _ (both_hold (own_room e) (their_room e)) ∙ ap (λ (z : FrameRead). frame_into z (own s)) (left _ _ _ out)))) refl refl
 
 pub reuse_allowed-allowed-requires : goal.reuse_allowed-allowed-requires
+unfolding in_frame_domain
 reuse_allowed-allowed-requires c =
+    let asked : c.is_extent.result && c.is_extent-2.result && c.is_usable-usable.result ≡ in_frame_domain (header (start (checked c))) (sequence (start (checked c))) = let f = (start (checked c)).ranges in
+    all_three (rw (to_z-of_z f.width) at c.is_extent.ensures) (rw (to_z-of_z f.height) at c.is_extent-2.ensures)
+    (rw (to_z-of_z f.max-width, to_z-of_z f.max-height) at c.is_usable-usable.ensures) in
+    let inside : in_frame_domain (header (begin c)) (sequence (begin c)) ≡ true = sym (asked) ∙ not-false _ c.if-not-sized-usable.false in
+    let fit : usable (sequence (begin c)) ≡ true = frame_usable (header (begin c)) (sequence (begin c)) (inside) in
+    let made : c.frame_args-a.result ≡ frame_args (header (begin c)) (sequence (begin c)) = let f = (begin c).ranges in
+    rw (to_z-of_z f.width, to_z-of_z f.height) at c.frame_args-a.ensures in
+    let in_domain_lem : in_domain c.frame_args-a.result ≡ true = ap in_domain (made) ∙ frame_in_domain (header (begin c)) (sequence (begin c)) (inside) in
+    let their_room : has_room (theirs (start c)) ≡ true = sym c.has_room-2.ensures ∙ not-false c.has_room-2.result c.if-not-has_room-2.false in
+    let in_buffers : Tiled (sequence (start c)).t → Tiled (Held (theirs (start c))) = subst Tiled (held (theirs (start c)) (their_room)) in
     let a = c in
     let k = a in (
-      in_domain_lem a,
+      in_domain_lem,
       λ on.
-          let t = in_buffers (checked k) ((known (sequence (begin k)) (fit k)).tiled on) in
+          let t = in_buffers (checked k) ((known (sequence (begin k)) (fit)).tiled on) in
           ((usable_tiles_lem _ _ _ t.cols).small, (usable_tiles_lem _ _ _ t.rows).small),
     )
 
 pub reused_layout-requires : goal.reused_layout-requires
+unfolding in_frame_domain
 reused_layout-requires c =
+    let own_room : has_room (own (start c)) ≡ true = let o = c in
+    sym o.has_room.ensures ∙ not-false o.has_room.result o.if-not-has_room.false in
+    let asked : c.is_extent.result && c.is_extent-2.result && c.is_usable-usable.result ≡ in_frame_domain (header (start (checked c))) (sequence (start (checked c))) = let f = (start (checked c)).ranges in
+    all_three (rw (to_z-of_z f.width) at c.is_extent.ensures) (rw (to_z-of_z f.height) at c.is_extent-2.ensures)
+    (rw (to_z-of_z f.max-width, to_z-of_z f.max-height) at c.is_usable-usable.ensures) in
+    let inside : in_frame_domain (header (begin c)) (sequence (begin c)) ≡ true = sym (asked) ∙ not-false _ c.if-not-sized-usable.false in
+    let made : c.frame_args-a.result ≡ frame_args (header (begin c)) (sequence (begin c)) = let f = (begin c).ranges in
+    rw (to_z-of_z f.width, to_z-of_z f.height) at c.frame_args-a.ensures in
+    let in_domain_lem : in_domain c.frame_args-a.result ≡ true = ap in_domain (made) ∙ frame_in_domain (header (begin c)) (sequence (begin c)) (inside) in
+    let fit : usable (sequence (begin c)) ≡ true = frame_usable (header (begin c)) (sequence (begin c)) (inside) in
+    let their_room : has_room (theirs (start c)) ≡ true = sym c.has_room-2.ensures ∙ not-false c.has_room-2.result c.if-not-has_room-2.false in
+    let in_buffers : Tiled (sequence (start c)).t → Tiled (Held (theirs (start c))) = subst Tiled (held (theirs (start c)) (their_room)) in
+    let allowed : c.reuse_allowed-allowed.result ≡ reuse_allowed (args c).frame-args.result (sequence (begin (args c).before)) = let s = begin (args c).before in
+    let q = sequence s in
+    rw (c.is_set.ensures, to_z-of_z s.fits.max-width, to_z-of_z s.fits.max-height) at c.reuse_allowed-allowed.ensures
+    ∙ allowed_in (args c).frame-args.result q (theirs s) (their_room (checked (args c).before.before)) refl (ap (λ (x : TileArgs). x.seq_code) (made (args c))) in
     let i = c in
     let f = i in
     let e = checked (args f).before.before in
@@ -168,8 +155,22 @@ reused_layout-requires c =
     (in_domain_lem (args f), (own_room e, ((r.bytes, r.cols, r.rows), (t.cols, t.rows))))
 
 pub returns-then-reuse : goal.returns-then-reuse
-unfolding parse_tile_info_frmhdr_into parse_tile_info_frmhdr
+unfolding parse_tile_info_frmhdr_into parse_tile_info_frmhdr in_frame_domain read_reuse
 returns-then-reuse c =
+    let own_room : has_room (own (start c)) ≡ true = let o = c in
+    sym o.has_room.ensures ∙ not-false o.has_room.result o.if-not-has_room.false in
+    let their_room : has_room (theirs (start c)) ≡ true = sym c.has_room-2.ensures ∙ not-false c.has_room-2.result c.if-not-has_room-2.false in
+    let asked : c.is_extent.result && c.is_extent-2.result && c.is_usable-usable.result ≡ in_frame_domain (header (start (checked c))) (sequence (start (checked c))) = let f = (start (checked c)).ranges in
+    all_three (rw (to_z-of_z f.width) at c.is_extent.ensures) (rw (to_z-of_z f.height) at c.is_extent-2.ensures)
+    (rw (to_z-of_z f.max-width, to_z-of_z f.max-height) at c.is_usable-usable.ensures) in
+    let inside : in_frame_domain (header (begin c)) (sequence (begin c)) ≡ true = sym (asked) ∙ not-false _ c.if-not-sized-usable.false in
+    let made : c.frame_args-a.result ≡ frame_args (header (begin c)) (sequence (begin c)) = let f = (begin c).ranges in
+    rw (to_z-of_z f.width, to_z-of_z f.height) at c.frame_args-a.ensures in
+    let allowed : c.reuse_allowed-allowed.result ≡ reuse_allowed (args c).frame-args.result (sequence (begin (args c).before)) = let s = begin (args c).before in
+    let q = sequence s in
+    rw (c.is_set.ensures, to_z-of_z s.fits.max-width, to_z-of_z s.fits.max-height) at c.reuse_allowed-allowed.ensures
+    ∙ allowed_in (args c).frame-args.result q (theirs s) (their_room (checked (args c).before.before)) refl (ap (λ (x : TileArgs). x.seq_code) (made (args c))) in
+    let answered : c.read_reuse-reuse.result ≡ read_reuse (bytes (begin (args c).before)) (begin (args c).before).args.p (args c).frame-args.result (sequence (begin (args c).before)) = rw (allowed) at c.read_reuse-reuse.ensures in
     let l = c in
     let i = l in
     let f = i in
@@ -177,21 +178,45 @@ returns-then-reuse c =
     let k = a.before in
     let e = checked k.before in
     let s = start e in
-    let read = taken _ _ _ (inside k) ∙ through _ _ (made a) ∙ through _ _ (answered f) ∙ taken _ _ _ i.if-reuse.true in
+    let read = taken _ _ _ (inside k) ∙ through _ _ (made a) ∙ through _ _ (answered) ∙ taken _ _ _ i.if-reuse.true in
     let put = pair refl l.reused_layout.ensures ∙ ap (λ (z : FrameRead). frame_into z (own s)) (sym read) in
     what-is-left (bytes s) s.args.p (own s) (theirs s) (header s) (sequence s) refl
     (put ∙ sym (taken _ _ _ (both_hold (own_room e) (their_room e)))) c.cols-1.given c.rows-1.given
 
 pub fresh_layout-requires : goal.fresh_layout-requires
+unfolding in_frame_domain
 fresh_layout-requires c =
+    let own_room : has_room (own (start c)) ≡ true = let o = c in
+    sym o.has_room.ensures ∙ not-false o.has_room.result o.if-not-has_room.false in
+    let made : c.frame_args-a.result ≡ frame_args (header (begin c)) (sequence (begin c)) = let f = (begin c).ranges in
+    rw (to_z-of_z f.width, to_z-of_z f.height) at c.frame_args-a.ensures in
+    let asked : c.is_extent.result && c.is_extent-2.result && c.is_usable-usable.result ≡ in_frame_domain (header (start (checked c))) (sequence (start (checked c))) = let f = (start (checked c)).ranges in
+    all_three (rw (to_z-of_z f.width) at c.is_extent.ensures) (rw (to_z-of_z f.height) at c.is_extent-2.ensures)
+    (rw (to_z-of_z f.max-width, to_z-of_z f.max-height) at c.is_usable-usable.ensures) in
+    let inside : in_frame_domain (header (begin c)) (sequence (begin c)) ≡ true = sym (asked) ∙ not-false _ c.if-not-sized-usable.false in
+    let in_domain_lem : in_domain c.frame_args-a.result ≡ true = ap in_domain (made) ∙ frame_in_domain (header (begin c)) (sequence (begin c)) (inside) in
     let f = c in
     let a = args f in
     let s = begin a.before in
     (in_domain_lem a, (rw (to_z-of_z s.fits.width, to_z-of_z s.fits.height) (ap (λ (x : TileArgs). x.width) (made a), ap (λ (x : TileArgs). x.height) (made a)), own_room (checked a.before.before)))
 
 pub returns : goal.returns
-unfolding parse_tile_info_frmhdr_into parse_tile_info_frmhdr
+unfolding parse_tile_info_frmhdr_into parse_tile_info_frmhdr in_frame_domain read_reuse
 returns c =
+    let own_room : has_room (own (start c)) ≡ true = let o = c in
+    sym o.has_room.ensures ∙ not-false o.has_room.result o.if-not-has_room.false in
+    let their_room : has_room (theirs (start c)) ≡ true = sym c.has_room-2.ensures ∙ not-false c.has_room-2.result c.if-not-has_room-2.false in
+    let asked : c.is_extent.result && c.is_extent-2.result && c.is_usable-usable.result ≡ in_frame_domain (header (start (checked c))) (sequence (start (checked c))) = let f = (start (checked c)).ranges in
+    all_three (rw (to_z-of_z f.width) at c.is_extent.ensures) (rw (to_z-of_z f.height) at c.is_extent-2.ensures)
+    (rw (to_z-of_z f.max-width, to_z-of_z f.max-height) at c.is_usable-usable.ensures) in
+    let inside : in_frame_domain (header (begin c)) (sequence (begin c)) ≡ true = sym (asked) ∙ not-false _ c.if-not-sized-usable.false in
+    let made : c.frame_args-a.result ≡ frame_args (header (begin c)) (sequence (begin c)) = let f = (begin c).ranges in
+    rw (to_z-of_z f.width, to_z-of_z f.height) at c.frame_args-a.ensures in
+    let allowed : c.reuse_allowed-allowed.result ≡ reuse_allowed (args c).frame-args.result (sequence (begin (args c).before)) = let s = begin (args c).before in
+    let q = sequence s in
+    rw (c.is_set.ensures, to_z-of_z s.fits.max-width, to_z-of_z s.fits.max-height) at c.reuse_allowed-allowed.ensures
+    ∙ allowed_in (args c).frame-args.result q (theirs s) (their_room (checked (args c).before.before)) refl (ap (λ (x : TileArgs). x.seq_code) (made (args c))) in
+    let answered : c.read_reuse-reuse.result ≡ read_reuse (bytes (begin (args c).before)) (begin (args c).before).args.p (args c).frame-args.result (sequence (begin (args c).before)) = rw (allowed) at c.read_reuse-reuse.ensures in
     let l = c in
     let i = l in
     let f = i in
@@ -199,7 +224,7 @@ returns c =
     let k = a.before in
     let e = checked k.before in
     let s = start e in
-    let read = taken _ _ _ (inside k) ∙ through _ _ (made a) ∙ through _ _ (answered f) ∙ left _ _ _ i.if-reuse.false in
+    let read = taken _ _ _ (inside k) ∙ through _ _ (made a) ∙ through _ _ (answered) ∙ left _ _ _ i.if-reuse.false in
     let put = fresh_into (bytes s) f.read_reuse-reuse.result.next (header s) a.frame-args.result (own s) refl _ _ l.fresh_layout.ensures ∙ ap (λ (z : FrameRead). frame_into z (own s)) (sym read) in
     what-is-left (bytes s) s.args.p (own s) (theirs s) (header s) (sequence s) refl
     (put ∙ sym (taken _ _ _ (both_hold (own_room e) (their_room e)))) c.cols-2-1.given c.rows-2-1.given

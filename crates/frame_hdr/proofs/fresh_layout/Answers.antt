@@ -30,9 +30,6 @@ given s = buffers s.args.info.now s.args.cols.now s.args.rows.now
 abbrev fresh : goal.Start → TileRead
 fresh s = parse_tile_info s.args.s.now s.args.p (layout_in (given s)) s.args.a
 
-small : (s : goal.Start) → s.args.a.multiplier < 2 ^ 31
-small s = lt_of_le_of_lt (low_multiplier s.args.a (domain s.args.a s.requires.a_value)) (lit< tt)
-
 -- the outcome of a reading, with the code n
 module _ (z : TileRead) (b : Buffers) (old code : ℕ) {o : TileOutcome} {after : Buffers} (put : (o, after) ≡ read_into z b) where
   outcome : o ≡ record { answer = z.answer; next = z.next }
@@ -45,16 +42,16 @@ module _ (z : TileRead) (b : Buffers) (old code : ℕ) {o : TileOutcome} {after 
       let refusal = sym (ap (λ (x : TileOutcome). is_refusal x.answer) outcome) ∙ sym e ∙ f in
       (rw (outcome, g, refusal) refl, ap (λ (x : TileOutcome × Buffers). x.1) put)
 
--- the arguments as the call has them
-args : (s : goal.Start) → args_of (to_z w32 s.args.a.multiplier) s.args.a.frame_code s.args.a.seq_code s.args.width s.args.height s.args.a.level s.args.a.tier ≡ s.args.a
-args s = rw (to_z_pos w32 s.args.a.multiplier (small s), ← s.requires.width_value.0.0.0, ← s.requires.width_value.0.0.1) refl
-
 pub overflow_cast-a : goal.overflow_cast-a
-overflow_cast-a c = record { sfits = small c }
+overflow_cast-a c =
+    let small : c.args.a.multiplier < 2 ^ 31 = lt_of_le_of_lt (low_multiplier c.args.a (domain c.args.a c.requires.a_value)) (lit< tt) in
+    record { sfits = small }
 
 pub returns-then-is_refusal : goal.returns-then-is_refusal
 unfolding parse_tile_info_into
 returns-then-is_refusal c =
+    let small : c.args.a.multiplier < 2 ^ 31 = lt_of_le_of_lt (low_multiplier c.args.a (domain c.args.a c.requires.a_value)) (lit< tt) in
+    let args : args_of (to_z w32 c.args.a.multiplier) c.args.a.frame_code c.args.a.seq_code c.args.width c.args.height c.args.a.level c.args.a.tier ≡ c.args.a = rw (to_z_pos w32 c.args.a.multiplier (small), ← c.requires.width_value.0.0.0, ← c.requires.width_value.0.0.1) refl in
     let z = c in
     let s = start z in
     let into = simp (to_z-of_z s.fits.width, to_z-of_z s.fits.height, args s) at z.parse_tile_info_into-r.ensures.after_after in
@@ -63,6 +60,8 @@ returns-then-is_refusal c =
 pub returns : goal.returns
 unfolding parse_tile_info_into
 returns c =
+    let small : c.args.a.multiplier < 2 ^ 31 = lt_of_le_of_lt (low_multiplier c.args.a (domain c.args.a c.requires.a_value)) (lit< tt) in
+    let args : args_of (to_z w32 c.args.a.multiplier) c.args.a.frame_code c.args.a.seq_code c.args.width c.args.height c.args.a.level c.args.a.tier ≡ c.args.a = rw (to_z_pos w32 c.args.a.multiplier (small), ← c.requires.width_value.0.0.0, ← c.requires.width_value.0.0.1) refl in
     let z = c in
     let s = start z in
     let into = simp (to_z-of_z s.fits.width, to_z-of_z s.fits.height, args s) at z.parse_tile_info_into-r.ensures.after_after in

@@ -16,16 +16,6 @@ use Rattle.getbits.specs.Bits.{place_at}
 use Rattle.frame_request.proofs.Long.{long}
 use Rattle.frame_request.proofs.frame_request.Goals as goal
 
-good : (k : goal.Else-not-is_request) → is_frame_request k.args.s.now ≡ true
-good k = sym k.is_request.ensures ∙ not-false _ k.if-not-is_request.false
-
--- nothing is missing before the tiling bits
-there : (c : goal.After-two_at-bits) → let s = c.args.s.now in
-    (c.two_at-bits.result ≡ two_at s 0) × (frame_at s + 5 ≤ length s)
-there c =
-    let k = c in
-    (c.two_at-bits.ensures.0, long k.args.s.now (good k))
-
 pub returns-then-not-is_request : goal.returns-then-not-is_request
 unfolding frame_request
 returns-then-not-is_request c =
@@ -35,32 +25,46 @@ returns-then-not-is_request c =
 pub returns-then-is_refusal : goal.returns-then-is_refusal
 unfolding frame_request
 returns-then-is_refusal c =
+    let good : is_frame_request c.args.s.now ≡ true = sym c.is_request.ensures ∙ not-false _ c.if-not-is_request.false in
     let q = c in
     c.no_frame-then-is_refusal.ensures
-    ∙ sym (taken _ _ _ (good q) ∙ through _ _ q.request_header-q.ensures ∙ taken _ _ _ (sym c.is_refusal.ensures ∙ c.if-is_refusal.true))
+    ∙ sym (taken _ _ _ (good) ∙ through _ _ q.request_header-q.ensures ∙ taken _ _ _ (sym c.is_refusal.ensures ∙ c.if-is_refusal.true))
 
 pub slice_bounds-parse_tile_info_frmhdr-count : goal.slice_bounds-parse_tile_info_frmhdr-count
-slice_bounds-parse_tile_info_frmhdr-count c = omega (arith, (there c).0, (there c).1)
+slice_bounds-parse_tile_info_frmhdr-count c =
+    let good : is_frame_request c.args.s.now ≡ true = sym c.is_request.ensures ∙ not-false _ c.if-not-is_request.false in
+    let there : let s = c.args.s.now in (c.two_at-bits.result ≡ two_at s 0) × (frame_at s + 5 ≤ length s) = let k = c in
+    (c.two_at-bits.ensures.0, long k.args.s.now (good)) in
+    omega (arith, (there).0, (there).1)
 
 pub slice_bounds-parse_tile_info_frmhdr-start : goal.slice_bounds-parse_tile_info_frmhdr-start
-slice_bounds-parse_tile_info_frmhdr-start c = omega (arith, (there c).0, (there c).1)
+slice_bounds-parse_tile_info_frmhdr-start c =
+    let good : is_frame_request c.args.s.now ≡ true = sym c.is_request.ensures ∙ not-false _ c.if-not-is_request.false in
+    let there : let s = c.args.s.now in (c.two_at-bits.result ≡ two_at s 0) × (frame_at s + 5 ≤ length s) = let k = c in
+    (c.two_at-bits.ensures.0, long k.args.s.now (good)) in
+    omega (arith, (there).0, (there).1)
 
 pub returns : goal.returns
 unfolding frame_request
 returns c =
+    let good : is_frame_request c.args.s.now ≡ true = sym c.is_request.ensures ∙ not-false _ c.if-not-is_request.false in
+    let there : let s = c.args.s.now in (c.two_at-bits.result ≡ two_at s 0) × (frame_at s + 5 ≤ length s) = let k = c in
+    (c.two_at-bits.ensures.0, long k.args.s.now (good)) in
     let n = c in
     let e = n in
     let q = e in
     let k = q in
     let s = k.args.s.now in
     let g = c.given_frame in
-    let at : n.two_at-bits.result + 7 ≡ frame_at s + 5 = omega (arith, (there n).0) in
+    let at : n.two_at-bits.result + 7 ≡ frame_at s + 5 = omega (arith, (there).0) in
     let rest : take (length s - (n.two_at-bits.result + 7)) (drop (n.two_at-bits.result + 7) s) ≡ drop (frame_at s + 5) s =
     take_all (length s - (n.two_at-bits.result + 7)) (drop (n.two_at-bits.result + 7) s) (simp length-drop (omega arith)) ∙ ap (λ (x : ℕ). drop x s) at in
     c.parse_tile_info_frmhdr.ensures.value
     ∙ ap (λ (x : List ℕ). parse_tile_info_frmhdr x (place_at 0 false) g.result (seq_layout q.request_header-q.result.hdr)) rest
     ∙ ap (λ (x : FrameHeader). parse_tile_info_frmhdr (drop (frame_at s + 5) s) (place_at 0 false) x (seq_layout q.request_header-q.result.hdr)) g.ensures
-    ∙ sym (taken _ _ _ (good k) ∙ through _ _ q.request_header-q.ensures ∙ left _ _ _ (sym e.is_refusal.ensures ∙ e.if-is_refusal.false))
+    ∙ sym (taken _ _ _ (good) ∙ through _ _ q.request_header-q.ensures ∙ left _ _ _ (sym e.is_refusal.ensures ∙ e.if-is_refusal.false))
 
 pub request_header-q-requires : goal.request_header-q-requires
-request_header-q-requires c = good c
+request_header-q-requires c =
+    let good : is_frame_request c.args.s.now ≡ true = sym c.is_request.ensures ∙ not-false _ c.if-not-is_request.false in
+    good

@@ -53,5 +53,5 @@ returns c =
     let e = rw (to_z-of_z a.ranges.n) at g.ensures in
     let n = nat_abs a.args.n in
     ◌∙◌ {b = signed n g.result}
-    (ap (λ (z : ℤ). record { value = z; next = g.result.next }) (back c.sign.result c.sign.type-inv ∙ rw (to_z-of_z a.ranges.n) at c.sign.ensures))
+    (ap (λ (z : ℤ). record { value = z; next = g.result.next }) (back c.sign.result c.sign.type_inv ∙ rw (to_z-of_z a.ranges.n) at c.sign.ensures))
     (ap (signed n) e)

@@ -7,30 +7,38 @@ use Rattle.getbits.proofs.Callers.{width_in}
 use Rattle.getbits.proofs.Places.{settled_in, read_at}
 use Rattle.getbits.proofs.read_bits.Goals as goal
 
-four : (t : goal.Then-s-ge4) → 4 ≤ length t.args.s.now
-four t = leb-true 4 (length t.args.s.now) t.if-s-ge4.true
-
--- four bytes are left
-known : (t : goal.Then-byte-s) → (let a = t.args in (a.p.used < 8) × (4 ≤ length a.s.now) × (a.p.byte ≤ length a.s.now - 4))
-known t =
-    let a = t.args in
-    (ltb-true a.p.used 8 t.if-used-lt8.true, four t, leb-true a.p.byte (length a.s.now - 4) t.if-byte-s.true)
-
 pub overflow_sub-s : goal.overflow_sub-s
-overflow_sub-s t = four t
+overflow_sub-s t =
+    let four : 4 ≤ length t.args.s.now = leb-true 4 (length t.args.s.now) t.if-s-ge4.true in
+    four
 
 pub overflow_add-stop : goal.overflow_add-stop
-overflow_add-stop t = omega (arith, (known t).0)
+overflow_add-stop t =
+    let four : 4 ≤ length t.args.s.now = leb-true 4 (length t.args.s.now) t.if-s-ge4.true in
+    let known : (let a = t.args in (a.p.used < 8) × (4 ≤ length a.s.now) × (a.p.byte ≤ length a.s.now - 4)) = let a = t.args in
+    (ltb-true a.p.used 8 t.if-used-lt8.true, four, leb-true a.p.byte (length a.s.now - 4) t.if-byte-s.true) in
+    omega (arith, (known).0)
 
 pub narrow-requires : goal.narrow-requires
-narrow-requires t = (omega (arith, (known t).1, (known t).2), (known t).0, omega arith)
+narrow-requires t =
+    let four : 4 ≤ length t.args.s.now = leb-true 4 (length t.args.s.now) t.if-s-ge4.true in
+    let known : (let a = t.args in (a.p.used < 8) × (4 ≤ length a.s.now) × (a.p.byte ≤ length a.s.now - 4)) = let a = t.args in
+    (ltb-true a.p.used 8 t.if-used-lt8.true, four, leb-true a.p.byte (length a.s.now - 4) t.if-byte-s.true) in
+    (omega (arith, (known).1, (known).2), (known).0, omega arith)
 
 pub overflow_add-result : goal.overflow_add-result
-overflow_add-result c = omega (arith, (known c).0, (known c).1, (known c).2)
+overflow_add-result c =
+    let four : 4 ≤ length c.args.s.now = leb-true 4 (length c.args.s.now) c.if-s-ge4.true in
+    let known : (let a = c.args in (a.p.used < 8) × (4 ≤ length a.s.now) × (a.p.byte ≤ length a.s.now - 4)) = let a = c.args in
+    (ltb-true a.p.used 8 c.if-used-lt8.true, four, leb-true a.p.byte (length a.s.now - 4) c.if-byte-s.true) in
+    omega (arith, (known).0, (known).1, (known).2)
 
 pub returns-then-byte-s : goal.returns-then-byte-s
 returns-then-byte-s c =
+    let four : 4 ≤ length c.args.s.now = leb-true 4 (length c.args.s.now) c.if-s-ge4.true in
+    let known : (let a = c.args in (a.p.used < 8) × (4 ≤ length a.s.now) × (a.p.byte ≤ length a.s.now - 4)) = let a = c.args in
+    (ltb-true a.p.used 8 c.if-used-lt8.true, four, leb-true a.p.byte (length a.s.now - 4) c.if-byte-s.true) in
     let a = c.args in
-    let k = known c in
+    let k = known in
     read_at a.s.now a.p a.p a.n (settled_in a.s.now a.p (omega (arith, k.1, k.2)) k.0) (omega (arith, k.0, k.1, k.2)) c.narrow.ensures
     ∙ width_in a.s.now a.p a.n (omega arith)

@@ -9,27 +9,31 @@ use Rattle.getbits.proofs.Callers.{power_below}
 use Rattle.getbits.proofs.Widths.{back, sign_below, sign_above}
 use Rattle.getbits.proofs.sign.Goals as goal
 
-twice : (c : goal.After-power-half) → 2 ^ c.args.n ≡ 2 * c.power-half.result
-twice c =
-    let n = c.args.n in
-    let e : n ≡ suc (n - 1) = omega arith in
-    omega (arith, power_below (omega arith) c.power-half.ensures.0, pow-suc 2 (n - 1), ap (λ (x : ℕ). 2 ^ x) e)
-
 pub returns-then-v-half : goal.returns-then-v-half
 returns-then-v-half c =
+    let twice : 2 ^ c.args.n ≡ 2 * c.power-half.result = let n = c.args.n in
+    let e : n ≡ suc (n - 1) = omega arith in
+    omega (arith, power_below (omega arith) c.power-half.ensures.0, pow-suc 2 (n - 1), ap (λ (x : ℕ). 2 ^ x) e) in
     let a = c.args in
     let h : a.v < 2 ^ 31 = omega arith in
-    to_z_pos w32 a.v h ∙ sign_below a.n a.v (omega (arith, twice c))
+    to_z_pos w32 a.v h ∙ sign_below a.n a.v (omega (arith, twice))
 
 pub overflow_sub-half-2 : goal.overflow_sub-half-2
-overflow_sub-half-2 c = omega (arith, twice c)
+overflow_sub-half-2 c =
+    let twice : 2 ^ c.args.n ≡ 2 * c.power-half.result = let n = c.args.n in
+    let e : n ≡ suc (n - 1) = omega arith in
+    omega (arith, power_below (omega arith) c.power-half.ensures.0, pow-suc 2 (n - 1), ap (λ (x : ℕ). 2 ^ x) e) in
+    omega (arith, twice)
 
 pub returns : goal.returns
 returns c =
+    let twice : 2 ^ c.args.n ≡ 2 * c.power-half.result = let n = c.args.n in
+    let e : n ≡ suc (n - 1) = omega arith in
+    omega (arith, power_below (omega arith) c.power-half.ensures.0, pow-suc 2 (n - 1), ap (λ (x : ℕ). 2 ^ x) e) in
     let k = c in
     let a = k.args in
-    let e = twice k in
-    back c.below_zero.result c.below_zero.type-inv
+    let e = twice in
+    back c.below_zero.result c.below_zero.type_inv
     ∙ c.below_zero.ensures
     ∙ ap negsuc (omega arith)
     ∙ sign_above a.n a.v (omega arith) (omega arith)

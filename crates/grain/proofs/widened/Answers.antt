@@ -9,7 +9,7 @@ use Rattle.flat.proofs.Rows.{begun, filled, full, sign_fits, sign_kept}
 use Rattle.grain.proofs.widened.Goals as goal
 
 count : (s : goal.Start invariant-loop decreases-loop) → length s.args.t1 ≡ 186
-count s = s.well-formed.0.1.0.1
+count s = s.well_formed.0.1.0.1
 
 pub loop-i-init : goal.loop-i-init
 loop-i-init c = begun _ _ _

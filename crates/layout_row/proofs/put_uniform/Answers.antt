@@ -16,36 +16,56 @@ record Lengths (max l power : ℕ) : Type 0 where
   whole : power ≡ 2 ^ bit_length max
   over : max < power
 
-lengths : (c : goal.After-power) → Lengths c.args.max c.bit_length-l.result c.power.result
-lengths c =
-    let s = c in
-    let is = length_is s.args.max (omega (arith, c.if-max-le1.false)) (omega (arith, s.requires.1)) in
-    let l = c.bit_length-l.ensures in
-    let few = pow_lt_only (bit_length s.args.max - 1) 11 (lt_of_le_of_lt is.3 (omega (arith, s.requires.1))) in
-    let low : c.bit_length-l.result % 32 ≡ bit_length s.args.max = omega (arith, l, is.1) in
-    let p = c.power.ensures.0 ∙ ap (λ (n : ℕ). 2 ^ n) low in
-    record { is = l; some = omega (arith, l, is.0); most = omega (arith, l, few); whole = p; over = rw p is.2 }
-
 pub returns-then-max-le1 : goal.returns-then-max-le1
 returns-then-max-le1 c =
     let a = c.args in
     (rw (code_few a.max a.v c.if-max-le1.true) (nothing a.row.now a.at), omega arith)
 
 pub overflow_sub-m : goal.overflow_sub-m
-overflow_sub-m c = omega (arith, (lengths c).over)
+overflow_sub-m c =
+    let lengths : Lengths c.args.max c.bit_length-l.result c.power.result = let s = c in
+    let is = length_is s.args.max (omega (arith, c.if-max-le1.false)) (omega (arith, s.requires.1)) in
+    let l = c.bit_length-l.ensures in
+    let few = pow_lt_only (bit_length s.args.max - 1) 11 (lt_of_le_of_lt is.3 (omega (arith, s.requires.1))) in
+    let low : c.bit_length-l.result % 32 ≡ bit_length s.args.max = omega (arith, l, is.1) in
+    let p = c.power.ensures.0 ∙ ap (λ (n : ℕ). 2 ^ n) low in
+    record { is = l; some = omega (arith, l, is.0); most = omega (arith, l, few); whole = p; over = rw p is.2 } in
+    omega (arith, (lengths).over)
 
 pub overflow_sub-l : goal.overflow_sub-l
-overflow_sub-l c = omega (arith, (lengths c).some)
+overflow_sub-l c =
+    let lengths : Lengths c.args.max c.bit_length-l.result c.power.result = let s = c in
+    let is = length_is s.args.max (omega (arith, c.if-max-le1.false)) (omega (arith, s.requires.1)) in
+    let l = c.bit_length-l.ensures in
+    let few = pow_lt_only (bit_length s.args.max - 1) 11 (lt_of_le_of_lt is.3 (omega (arith, s.requires.1))) in
+    let low : c.bit_length-l.result % 32 ≡ bit_length s.args.max = omega (arith, l, is.1) in
+    let p = c.power.ensures.0 ∙ ap (λ (n : ℕ). 2 ^ n) low in
+    record { is = l; some = omega (arith, l, is.0); most = omega (arith, l, few); whole = p; over = rw p is.2 } in
+    omega (arith, (lengths).some)
 
 pub put_bits-requires : goal.put_bits-requires
 put_bits-requires c =
-    let k = lengths c in
+    let lengths : Lengths c.args.max c.bit_length-l.result c.power.result = let s = c in
+    let is = length_is s.args.max (omega (arith, c.if-max-le1.false)) (omega (arith, s.requires.1)) in
+    let l = c.bit_length-l.ensures in
+    let few = pow_lt_only (bit_length s.args.max - 1) 11 (lt_of_le_of_lt is.3 (omega (arith, s.requires.1))) in
+    let low : c.bit_length-l.result % 32 ≡ bit_length s.args.max = omega (arith, l, is.1) in
+    let p = c.power.ensures.0 ∙ ap (λ (n : ℕ). 2 ^ n) low in
+    record { is = l; some = omega (arith, l, is.0); most = omega (arith, l, few); whole = p; over = rw p is.2 } in
+    let k = lengths in
     (omega (arith, k.most, c.requires.0), omega (arith, k.most))
 
 pub returns-then-v-m : goal.returns-then-v-m
 returns-then-v-m c =
+    let lengths : Lengths c.args.max c.bit_length-l.result c.power.result = let s = c in
+    let is = length_is s.args.max (omega (arith, c.if-max-le1.false)) (omega (arith, s.requires.1)) in
+    let l = c.bit_length-l.ensures in
+    let few = pow_lt_only (bit_length s.args.max - 1) 11 (lt_of_le_of_lt is.3 (omega (arith, s.requires.1))) in
+    let low : c.bit_length-l.result % 32 ≡ bit_length s.args.max = omega (arith, l, is.1) in
+    let p = c.power.ensures.0 ∙ ap (λ (n : ℕ). 2 ^ n) low in
+    record { is = l; some = omega (arith, l, is.0); most = omega (arith, l, few); whole = p; over = rw p is.2 } in
     let t = c in
-    let k = lengths t in
+    let k = lengths in
     let e = t in
     let a = e.args in
     let r = c.put_bits.ensures in (
@@ -60,13 +80,27 @@ overflow_add-v c =
 
 pub put_bits-requires-2 : goal.put_bits-requires-2
 put_bits-requires-2 c =
-    let k = lengths c in
+    let lengths : Lengths c.args.max c.bit_length-l.result c.power.result = let s = c in
+    let is = length_is s.args.max (omega (arith, c.if-max-le1.false)) (omega (arith, s.requires.1)) in
+    let l = c.bit_length-l.ensures in
+    let few = pow_lt_only (bit_length s.args.max - 1) 11 (lt_of_le_of_lt is.3 (omega (arith, s.requires.1))) in
+    let low : c.bit_length-l.result % 32 ≡ bit_length s.args.max = omega (arith, l, is.1) in
+    let p = c.power.ensures.0 ∙ ap (λ (n : ℕ). 2 ^ n) low in
+    record { is = l; some = omega (arith, l, is.0); most = omega (arith, l, few); whole = p; over = rw p is.2 } in
+    let k = lengths in
     (omega (arith, k.most, c.requires.0), omega (arith, k.most))
 
 pub returns : goal.returns
 returns c =
+    let lengths : Lengths c.args.max c.bit_length-l.result c.power.result = let s = c in
+    let is = length_is s.args.max (omega (arith, c.if-max-le1.false)) (omega (arith, s.requires.1)) in
+    let l = c.bit_length-l.ensures in
+    let few = pow_lt_only (bit_length s.args.max - 1) 11 (lt_of_le_of_lt is.3 (omega (arith, s.requires.1))) in
+    let low : c.bit_length-l.result % 32 ≡ bit_length s.args.max = omega (arith, l, is.1) in
+    let p = c.power.ensures.0 ∙ ap (λ (n : ℕ). 2 ^ n) low in
+    record { is = l; some = omega (arith, l, is.0); most = omega (arith, l, few); whole = p; over = rw p is.2 } in
     let t = c in
-    let k = lengths t in
+    let k = lengths in
     let e = t in
     let a = e.args in
     let r = c.put_bits-2.ensures in (

@@ -61,7 +61,7 @@ overflow_mul-cols-in-loop-row c =
     let cols : 4 * (start l).args.t.cols ≤ 256 = omega (arith, k.most_cols) in
     let rows : l.loop-row.row ≤ 64 = omega (arith, c.loop-row-test.true, k.most_rows) in
     let fit : 4 * (start l).args.t.cols * l.loop-row.row < 2 ^ 64 = omega (arith, mul-le-mul cols rows) in
-    fit
+    record { fits = fit }
 
 pub slice_bounds-put_row-end : goal.slice_bounds-put_row-end
 slice_bounds-put_row-end c = let s = start c in sym (cols_length s.args.t _ s.good.0)

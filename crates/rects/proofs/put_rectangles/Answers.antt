@@ -26,52 +26,52 @@ zeros = replicate 16384 0
 roomy : 16384 ≤ length zeros
 roomy = let none : ℕ = 0 in omega (arith, length-replicate 16384 none)
 
--- the answer and the numbers after the call
-called : (k : goal.After-tile_rectangles-answer) → let a = k.args in
-    (k.tile_rectangles-answer.result, k.tile_rectangles-answer.new.1.1.1.1.0) ≡ tile_rectangles a.t a.sb128 (unsigned a.w) (unsigned a.h) zeros
-called k = let f = k.ranges in rw (to_z-of_z f.w, to_z-of_z f.h) at k.tile_rectangles-answer.ensures.out_after
-
--- the test of the answer is one of the layout
-asked : (k : goal.After-is_refusal) → let a = k.args in k.is_refusal.result ≡ not (has_rectangles a.t a.sb128 (unsigned a.w) (unsigned a.h))
-asked k = let a = k.args in
-    k.is_refusal.ensures ∙ ap (λ (z : Answer × List ℕ). is_refusal z.0) (called k) ∙ refuses a.t a.sb128 (unsigned a.w) (unsigned a.h) zeros roomy
-
-has : (k : goal.Else-is_refusal) → let a = k.args in has_rectangles a.t a.sb128 (unsigned a.w) (unsigned a.h) ≡ true
-has k = not-false _ (sym (asked k) ∙ k.if-is_refusal.false)
-
--- the numbers after it
-written : (k : goal.Else-is_refusal) → let a = k.args in
-    k.tile_rectangles-answer.new.1.1.1.1.0 ≡ rectangles a.t a.sb128 (unsigned a.w) (unsigned a.h) ++ drop (rectangle_numbers a.t) zeros
-written k = let a = k.args in
-    ap (λ (z : Answer × List ℕ). z.1) (called k ∙ accepted a.t a.sb128 (unsigned a.w) (unsigned a.h) zeros roomy (has k))
-
 pub returns-then-is_refusal : goal.returns-then-is_refusal
 unfolding rectangles_text
 returns-then-is_refusal c =
+    let called : let a = c.args in (c.tile_rectangles-answer.result, c.tile_rectangles-answer.new.1.1.1.1.0) ≡ tile_rectangles a.t a.sb128 (unsigned a.w) (unsigned a.h) zeros = let f = c.ranges in rw (to_z-of_z f.w, to_z-of_z f.h) at c.tile_rectangles-answer.ensures.out_after in
+    let asked : let a = c.args in c.is_refusal.result ≡ not (has_rectangles a.t a.sb128 (unsigned a.w) (unsigned a.h)) = let a = c.args in
+    c.is_refusal.ensures ∙ ap (λ (z : Answer × List ℕ). is_refusal z.0) (called) ∙ refuses a.t a.sb128 (unsigned a.w) (unsigned a.h) zeros roomy in
     let p = c in
     let k = p in
     let a = k.args in
-    let none = not-true _ (sym (asked k) ∙ k.if-is_refusal.true) in
-    let four = p.number.ensures ∙ ap (λ (z : Answer × List ℕ). number_of z.0) (called k ∙ refused a.t a.sb128 (unsigned a.w) (unsigned a.h) zeros none) in
+    let none = not-true _ (sym (asked) ∙ k.if-is_refusal.true) in
+    let four = p.number.ensures ∙ ap (λ (z : Answer × List ℕ). number_of z.0) (called ∙ refused a.t a.sb128 (unsigned a.w) (unsigned a.h) zeros none) in
     rw (none, ← four) (within (omega arith) p.Put-refused.ensures)
 
 pub overflow_mul-tiles : goal.overflow_mul-tiles
 overflow_mul-tiles c =
+    let called : let a = c.args in (c.tile_rectangles-answer.result, c.tile_rectangles-answer.new.1.1.1.1.0) ≡ tile_rectangles a.t a.sb128 (unsigned a.w) (unsigned a.h) zeros = let f = c.ranges in rw (to_z-of_z f.w, to_z-of_z f.h) at c.tile_rectangles-answer.ensures.out_after in
+    let asked : let a = c.args in c.is_refusal.result ≡ not (has_rectangles a.t a.sb128 (unsigned a.w) (unsigned a.h)) = let a = c.args in
+    c.is_refusal.ensures ∙ ap (λ (z : Answer × List ℕ). is_refusal z.0) (called) ∙ refuses a.t a.sb128 (unsigned a.w) (unsigned a.h) zeros roomy in
+    let has : let a = c.args in has_rectangles a.t a.sb128 (unsigned a.w) (unsigned a.h) ≡ true = not-false _ (sym (asked) ∙ c.if-is_refusal.false) in
     let k = c in
     let a = k.args in
-    omega (arith, tiles_le a.t a.sb128 (unsigned a.w) (unsigned a.h) (has k))
+    omega (arith, tiles_le a.t a.sb128 (unsigned a.w) (unsigned a.h) (has))
 
 pub put_tiles-requires : goal.put_tiles-requires
 put_tiles-requires c =
+    let called : let a = c.args in (c.tile_rectangles-answer.result, c.tile_rectangles-answer.new.1.1.1.1.0) ≡ tile_rectangles a.t a.sb128 (unsigned a.w) (unsigned a.h) zeros = let f = c.ranges in rw (to_z-of_z f.w, to_z-of_z f.h) at c.tile_rectangles-answer.ensures.out_after in
+    let asked : let a = c.args in c.is_refusal.result ≡ not (has_rectangles a.t a.sb128 (unsigned a.w) (unsigned a.h)) = let a = c.args in
+    c.is_refusal.ensures ∙ ap (λ (z : Answer × List ℕ). is_refusal z.0) (called) ∙ refuses a.t a.sb128 (unsigned a.w) (unsigned a.h) zeros roomy in
+    let has : let a = c.args in has_rectangles a.t a.sb128 (unsigned a.w) (unsigned a.h) ≡ true = not-false _ (sym (asked) ∙ c.if-is_refusal.false) in
+    let written : let a = c.args in c.tile_rectangles-answer.new.1.1.1.1.0 ≡ rectangles a.t a.sb128 (unsigned a.w) (unsigned a.h) ++ drop (rectangle_numbers a.t) zeros = let a = c.args in
+    ap (λ (z : Answer × List ℕ). z.1) (called ∙ accepted a.t a.sb128 (unsigned a.w) (unsigned a.h) zeros roomy (has)) in
     let k = c in
     let a = k.args in
-    omega (arith, ap length (written k), length-append (rectangles a.t a.sb128 (unsigned a.w) (unsigned a.h)) (drop (rectangle_numbers a.t) zeros), long a.t a.sb128 (unsigned a.w) (unsigned a.h))
+    omega (arith, ap length (written), length-append (rectangles a.t a.sb128 (unsigned a.w) (unsigned a.h)) (drop (rectangle_numbers a.t) zeros), long a.t a.sb128 (unsigned a.w) (unsigned a.h))
 
 pub returns : goal.returns
 unfolding rectangles_text word
 returns c =
+    let called : let a = c.args in (c.tile_rectangles-answer.result, c.tile_rectangles-answer.new.1.1.1.1.0) ≡ tile_rectangles a.t a.sb128 (unsigned a.w) (unsigned a.h) zeros = let f = c.ranges in rw (to_z-of_z f.w, to_z-of_z f.h) at c.tile_rectangles-answer.ensures.out_after in
+    let asked : let a = c.args in c.is_refusal.result ≡ not (has_rectangles a.t a.sb128 (unsigned a.w) (unsigned a.h)) = let a = c.args in
+    c.is_refusal.ensures ∙ ap (λ (z : Answer × List ℕ). is_refusal z.0) (called) ∙ refuses a.t a.sb128 (unsigned a.w) (unsigned a.h) zeros roomy in
+    let has : let a = c.args in has_rectangles a.t a.sb128 (unsigned a.w) (unsigned a.h) ≡ true = not-false _ (sym (asked) ∙ c.if-is_refusal.false) in
+    let written : let a = c.args in c.tile_rectangles-answer.new.1.1.1.1.0 ≡ rectangles a.t a.sb128 (unsigned a.w) (unsigned a.h) ++ drop (rectangle_numbers a.t) zeros = let a = c.args in
+    ap (λ (z : Answer × List ℕ). z.1) (called ∙ accepted a.t a.sb128 (unsigned a.w) (unsigned a.h) zeros roomy (has)) in
     let p = c in
     let l = p in
     let k = l in
     let a = k.args in
-    rw (has k, ← lines_of a.t a.sb128 (unsigned a.w) (unsigned a.h) _ _ (written k)) (within (omega (arith, tiles_le a.t a.sb128 (unsigned a.w) (unsigned a.h) (has k))) (also l.put_line-first.ensures p.put_tiles.ensures))
+    rw (has, ← lines_of a.t a.sb128 (unsigned a.w) (unsigned a.h) _ _ (written)) (within (omega (arith, tiles_le a.t a.sb128 (unsigned a.w) (unsigned a.h) (has))) (also l.put_line-first.ensures p.put_tiles.ensures))

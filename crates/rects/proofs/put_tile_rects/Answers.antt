@@ -12,4 +12,4 @@ returns c =
     let w = width.samples-w in
     let h = height.samples-h in
     rw (← width.tile_request-r.ensures, ← p.byte_at_lem.ensures)
-    (rw (back w.result w.type-inv, back h.result h.type-inv, w.ensures, h.ensures) at p.put_read.ensures)
+    (rw (back w.result w.type_inv, back h.result h.type_inv, w.ensures, h.ensures) at p.put_read.ensures)

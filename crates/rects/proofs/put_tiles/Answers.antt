@@ -18,7 +18,7 @@ unfolding each
 loop-k-init c = (search rules, none _ _)
 
 pub overflow_mul-k : goal.overflow_mul-k
-overflow_mul-k c = omega (arith, room c c.loop-k-test.true, c.well-formed)
+overflow_mul-k c = omega (arith, room c c.loop-k-test.true, c.well_formed)
 
 pub put_tile-next-requires : goal.put_tile-next-requires
 put_tile-next-requires c = room c c.loop-k-test.true

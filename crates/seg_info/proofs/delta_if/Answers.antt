@@ -12,7 +12,7 @@ unfolding delta_if
 returns-then-cond c =
     let d = c.get_sbits-d in
     let e : to_z w32 (of_z w32 d.result.value) ≡ d.result.value = search rules in
-    rw (c.if-cond.true, to_z-of_z {w = w16} (record { sfits = c.clamp.type-inv }), c.clamp.ensures, e)
+    rw (c.if-cond.true, to_z-of_z {w = w16} (record { sfits = c.clamp.type_inv }), c.clamp.ensures, e)
     (sym (through _ _ d.ensures))
 
 pub returns : goal.returns

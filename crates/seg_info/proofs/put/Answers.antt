@@ -5,7 +5,7 @@ use mir.Val.{to_z, of_z}
 use Rattle.seg_info.proofs.put.Goals as goal
 
 -- the delta, read back from its bits
-back : (s : goal.Start) → to_z w16 (of_z w16 s.args.f.delta) ≡ s.args.f.delta
+back : (s : goal.Then-f) → to_z w16 (of_z w16 s.args.f.delta) ≡ s.args.f.delta
 back s = search rules
 
 pub returns-then-f : goal.returns-then-f

@@ -8,7 +8,7 @@ use Rattle.seg_info.proofs.Readings.{from_readings}
 use Rattle.seg_info.proofs.read_segment.Goals as goal
 
 -- the delta, read back from its bits
-back : (d : goal.After-delta_if-delta) → to_z w16 (of_z w16 d.delta_if-delta.result.value) ≡ d.delta_if-delta.result.value
+back : (d : goal.After-next-1) → to_z w16 (of_z w16 d.delta_if-delta.result.value) ≡ d.delta_if-delta.result.value
 back d = search rules
 
 pub returns : goal.returns

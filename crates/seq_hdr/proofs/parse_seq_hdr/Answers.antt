@@ -23,12 +23,6 @@ promised h e =
     let a = (start h).args in
     (sym e, subst (λ (r : SeqRead). HeaderLayout a.s.now a.p (number_of r.answer) r.hdr.tiling.t) e (header_layout a.s.now a.p a.strict))
 
--- the header up to the rest
-to_rest : (n : goal.Else-is_refusal) → let a = (start n).args in parse_seq_hdr a.s.now a.p a.strict ≡ rest_of a.strict a.s.now n.read_head-head.result
-to_rest n =
-    let a = (start n).args in
-    head_goes_on a.s.now a.p a.strict n.read_head-head.ensures.is (sym n.is_refusal.ensures ∙ n.if-is_refusal.false)
-
 pub returns-then-is_refusal : goal.returns-then-is_refusal
 returns-then-is_refusal c =
     let h = c in
@@ -41,13 +35,17 @@ read_rest-rest-requires c = (refl, refl)
 
 pub returns-then-is_refusal-2 : goal.returns-then-is_refusal-2
 returns-then-is_refusal-2 c =
+    let to_rest : let a = (start c).args in parse_seq_hdr a.s.now a.p a.strict ≡ rest_of a.strict a.s.now c.read_head-head.result = let a = (start c).args in
+    head_goes_on a.s.now a.p a.strict c.read_head-head.ensures.is (sym c.is_refusal.ensures ∙ c.if-is_refusal.false) in
     let k = c in
     let n = k in
     let w = k.read_rest-rest in
-    promised n (to_rest n ∙ w.ensures.0 n.read_head-head.result.hdr ∙ taken _ _ _ (sym k.is_refusal-2.ensures ∙ c.if-is_refusal-2.true) ∙ sym c.refuse_header.ensures)
+    promised n (to_rest ∙ w.ensures.0 n.read_head-head.result.hdr ∙ taken _ _ _ (sym k.is_refusal-2.ensures ∙ c.if-is_refusal-2.true) ∙ sym c.refuse_header.ensures)
 
 pub returns : goal.returns
 returns c =
+    let to_rest : let a = (start c).args in parse_seq_hdr a.s.now a.p a.strict ≡ rest_of a.strict a.s.now c.read_head-head.result = let a = (start c).args in
+    head_goes_on a.s.now a.p a.strict c.read_head-head.ensures.is (sym c.is_refusal.ensures ∙ c.if-is_refusal.false) in
     let i = c in
     let k = i in
     let n = k in
@@ -59,7 +57,7 @@ returns c =
     let fine = sym k.is_refusal-2.ensures ∙ i.if-is_refusal-2.false in
     let same = i.tile_info_of-t.ensures ∙ came_back t _ _ refl (w.ensures.1 ∙ left _ _ _ fine) k.cols-2-1.given k.rows-2-1.given in
     promised n
-    (to_rest n
+    (to_rest
     ∙ w.ensures.0 x.hdr
     ∙ left _ _ _ fine
     ∙ ap (λ (hdr : SequenceHeader). record { answer = y.answer; hdr = hdr; next = y.next })

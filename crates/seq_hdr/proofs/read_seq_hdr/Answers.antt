@@ -63,10 +63,6 @@ module _ (s : List ℕ) (p : Place) (strict : Bool) (out : List ℤ) (b : Buffer
 abbrev given : goal.Start → Buffers
 given s = buffers s.args.info.now s.args.cols.now s.args.rows.now
 
--- they have room
-room_of : (e : goal.Else-not-has_room) → has_room (given e) ≡ true
-room_of e = sym e.has_room.ensures ∙ not-false e.has_room.result e.if-not-has_room.false
-
 -- the states behind the clearing, the head and the rest
 abbrev start : goal.After-slice_known-6-1 → goal.Start
 start v = v.before.before.before.before.before.before.before.before.before.before.before.before.before.before.before.before.before.before.before
@@ -86,11 +82,9 @@ layout k =
     let x = (headed k).before.before.before.read_head.result in
     (read_tiling x.hdr.blocks.partition.sb128 x.hdr.picture.size x.hdr.level (start (cleared (headed k))).args.s.now x.next).fields.t
 
--- the header up to the rest
-to_rest : (n : goal.Else-is_refusal) → let a = (start (cleared n)).args in parse_seq_hdr a.s.now a.p a.strict ≡ rest_of a.strict a.s.now n.read_head-head.result
-to_rest n =
-    let a = (start (cleared n)).args in
-    head_goes_on a.s.now a.p a.strict n.read_head-head.ensures.is (sym n.is_refusal.ensures ∙ n.if-is_refusal.false)
+-- they have room
+room_of : (e : goal.After-clear_layout-arg-3-1) → has_room (given e) ≡ true
+room_of e = sym e.has_room.ensures ∙ not-false e.has_room.result e.if-not-has_room.false
 
 pub returns-then-not-has_room : goal.returns-then-not-has_room
 unfolding parse_seq_hdr_into
@@ -122,6 +116,8 @@ read_rest-rest-requires c =
 
 pub returns-then-is_refusal-2 : goal.returns-then-is_refusal-2
 returns-then-is_refusal-2 c =
+    let to_rest : let a = (start (cleared c)).args in parse_seq_hdr a.s.now a.p a.strict ≡ rest_of a.strict a.s.now c.read_head-head.result = let a = (start (cleared c)).args in
+    head_goes_on a.s.now a.p a.strict c.read_head-head.ensures.is (sym c.is_refusal.ensures ∙ c.if-is_refusal.false) in
     let k = c in
     let h = headed k in
     let v = cleared h in
@@ -131,12 +127,14 @@ returns-then-is_refusal-2 c =
     let refusal = sym k.is_refusal-2.ensures ∙ c.if-is_refusal-2.true in
     zeros a.s.now a.p a.strict a.out.now (given (start v)) (roomy v) w.result.answer w.result.next
     (k.cols-2-1.given ∙ v.before.before.before.cols.given) (k.rows-2-1.given ∙ v.before.rows.given)
-    (to_rest k ∙ w.ensures.0 r.result.hdr ∙ taken _ _ _ refusal)
+    (to_rest ∙ w.ensures.0 r.result.hdr ∙ taken _ _ _ refusal)
     (c.put_zeros-then-is_refusal-2.ensures ∙ r.ensures.1.behind (replicate 146 (pos 0))) (w.ensures.1 ∙ taken _ _ _ refusal ∙ v.before.before.before.before.before.before.clear-layout.ensures)
 
 pub returns : goal.returns
 unfolding flat_seq_hdr
 returns c =
+    let to_rest : let a = (start (cleared c)).args in parse_seq_hdr a.s.now a.p a.strict ≡ rest_of a.strict a.s.now c.read_head-head.result = let a = (start (cleared c)).args in
+    head_goes_on a.s.now a.p a.strict c.read_head-head.ensures.is (sym c.is_refusal.ensures ∙ c.if-is_refusal.false) in
     let k = c in
     let h = headed k in
     let v = cleared h in
@@ -151,7 +149,7 @@ returns c =
     let y = w.result in
     let z : SeqRead = record { answer = y.answer; hdr = with_tiling r.result.hdr (record { present = y.present; t = layout k }) y.film_grain_present; next = y.next } in
     whole a.s.now a.p a.strict a.out.now b (roomy v) z (k.cols-2-1.given ∙ cols) (k.rows-2-1.given ∙ rows)
-    (to_rest n ∙ w.ensures.0 r.result.hdr ∙ left _ _ _ fine)
+    (to_rest ∙ w.ensures.0 r.result.hdr ∙ left _ _ _ fine)
     (all_put (and_then (r.ensures.1.stands (sym h.is-refusal.ensures ∙ n.if-is_refusal.false)) c.put_last.ensures (omega arith)))
     (w.ensures.1 ∙ left _ _ _ fine ∙ goes_over no_tile_info b _ (roomy v) v.before.before.before.before.before.before.clear-layout.ensures cols rows (layout k))
 

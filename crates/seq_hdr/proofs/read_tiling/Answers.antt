@@ -41,14 +41,14 @@ abbrev given : goal.Start → Buffers
 given s = buffers s.args.info.now s.args.cols.now s.args.rows.now
 
 -- the lengths, read back from their bits
-width : (c : goal.Start) → to_z w32 (of_z w32 c.args.size.max_width) ≡ c.args.size.max_width
+width : (c : goal.After-next-2-1) → to_z w32 (of_z w32 c.args.size.max_width) ≡ c.args.size.max_width
 width c = search rules
 
-height : (c : goal.Start) → to_z w32 (of_z w32 c.args.size.max_height) ≡ c.args.size.max_height
+height : (c : goal.After-next-2-1) → to_z w32 (of_z w32 c.args.size.max_height) ≡ c.args.size.max_height
 height c = search rules
 
 -- the zero layout stands in the buffers
-none : (s : goal.Start) → layout_in (given s) ≡ no_tile_info
+none : (s : goal.After-next-2-1) → layout_in (given s) ≡ no_tile_info
 none s = sym (ap layout_in s.requires.rows_value_2) ∙ comes_back no_tile_info (given s) refl refl s.requires.rows_value
 
 pub returns-then-not-present : goal.returns-then-not-present

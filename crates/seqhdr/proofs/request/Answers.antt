@@ -15,21 +15,26 @@ use Rattle.seq_hdr.specs.Header.{parse_seq_hdr}
 use Rattle.seqhdr.specs.Request.{seq_request}
 use Rattle.seqhdr.proofs.request.Goals as goal
 
--- an input of a byte or more
-long : (c : goal.Then-is_request) → 1 ≤ length c.args.s.now
-long c =
-    let s = c.args.s.now in
-    let h = (both _ (leb (get_or s 0 0) 1) (sym c.is_request.ensures ∙ c.if-is_request.true)).0 in
-    leb-true 1 (length s) (both _ (leb (length s) 65536) h).0
-
 pub bounds-s-0 : goal.bounds-s-0
-bounds-s-0 c = omega (arith, long c)
+bounds-s-0 c =
+    let long : 1 ≤ length c.args.s.now = let s = c.args.s.now in
+    let h = (both _ (leb (get_or s 0 0) 1) (sym c.is_request.ensures ∙ c.if-is_request.true)).0 in
+    leb-true 1 (length s) (both _ (leb (length s) 65536) h).0 in
+    omega (arith, long)
 
 pub slice_bounds-parse_seq_hdr-count : goal.slice_bounds-parse_seq_hdr-count
-slice_bounds-parse_seq_hdr-count c = long c
+slice_bounds-parse_seq_hdr-count c =
+    let long : 1 ≤ length c.args.s.now = let s = c.args.s.now in
+    let h = (both _ (leb (get_or s 0 0) 1) (sym c.is_request.ensures ∙ c.if-is_request.true)).0 in
+    leb-true 1 (length s) (both _ (leb (length s) 65536) h).0 in
+    long
 
 pub slice_bounds-parse_seq_hdr-start : goal.slice_bounds-parse_seq_hdr-start
-slice_bounds-parse_seq_hdr-start c = long c
+slice_bounds-parse_seq_hdr-start c =
+    let long : 1 ≤ length c.args.s.now = let s = c.args.s.now in
+    let h = (both _ (leb (get_or s 0 0) 1) (sym c.is_request.ensures ∙ c.if-is_request.true)).0 in
+    leb-true 1 (length s) (both _ (leb (length s) 65536) h).0 in
+    long
 
 pub returns-then-is_request : goal.returns-then-is_request
 unfolding seq_request

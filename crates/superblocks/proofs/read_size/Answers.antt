@@ -5,13 +5,13 @@ use Rattle.superblocks.proofs.Counts.{uniform_fits}
 use Rattle.superblocks.proofs.read_size.Goals as goal
 
 -- what is read
-read : (c : goal.After-get_uniform-g) → let a = c.args in c.get_uniform-g.result ≡ get_uniform a.s.now a.p (min a.rest.0 a.limit.0)
+read : (c : goal.After-struct_known-1) → let a = c.args in c.get_uniform-g.result ≡ get_uniform a.s.now a.p (min a.rest.0 a.limit.0)
 read c =
     let a = c.args in
     c.get_uniform-g.ensures ∙ ap (get_uniform a.s.now a.p) c.umin.ensures
 
 pub overflow_add-result : goal.overflow_add-result
-overflow_add-result c = rw (read c) (uniform_fits _ _ _ (search rules))
+overflow_add-result c = record { fits = rw (read c) (uniform_fits _ _ _ (search rules)) }
 
 pub returns : goal.returns
 returns c =

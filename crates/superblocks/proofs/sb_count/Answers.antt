@@ -3,7 +3,7 @@ use Rattle.tile_layout.specs.Limits.{superblocks}
 use Rattle.superblocks.specs.Counts.{size_of}
 use Rattle.superblocks.proofs.sb_count.Goals as goal
 
-size : (c : goal.After-power-sbsz_min1) → c.power-sbsz_min1.result ≡ size_of c.args.code
+size : (c : goal.After-whole_sbs) → c.power-sbsz_min1.result ≡ size_of c.args.code
 size c =
     let e : c.sbsz_log2.result % 32 ≡ c.sbsz_log2.result = omega (arith, c.sbsz_log2.ensures.2) in
     c.power-sbsz_min1.ensures.0 ∙ ap (◌^◌ 2) e ∙ c.sbsz_log2.ensures.0

@@ -34,7 +34,7 @@ pub overflow_sub-result : goal.overflow_sub-result
 overflow_sub-result c = rw (negative c) (small c)
 
 pub overflow_cast-result : goal.overflow_cast-result
-overflow_cast-result c = rw (negative c, to_z-of_z (small c)) (tt, lt_of_lt_of_le c.ranges.n.sfits (lit≤ tt))
+overflow_cast-result c = rw (negative c, to_z-of_z (small c)) (tt, record { fits = lt_of_lt_of_le c.ranges.n.sfits (lit≤ tt) })
 
 pub overflow_add-result : goal.overflow_add-result
 overflow_add-result c = rw (negative c, to_z-of_z (small c)) (omega (arith, c.ranges.n.sfits))
@@ -43,7 +43,7 @@ pub overflow_cast-result-2 : goal.overflow_cast-result-2
 overflow_cast-result-2 c =
     let k = c in
     let h = rw (to_z-of_z k.ranges.n) at c.if-n-lt0.false in
-    rw (to_z-of_z k.ranges.n) ((not_negative k.args.n h).0, lt_of_le_of_lt {m = 2 ^ 63} (nat_abs-le k.args.n k.ranges.n.sfits) (lit< tt))
+    rw (to_z-of_z k.ranges.n) ((not_negative k.args.n h).0, record { fits = lt_of_le_of_lt {m = 2 ^ 63} (nat_abs-le k.args.n k.ranges.n.sfits) (lit< tt) })
 
 pub returns-then-n-lt0 : goal.returns-then-n-lt0
 returns-then-n-lt0 c = rw (negative c, to_z-of_z (small c)) (absolute c.args.n (rw (to_z-of_z c.ranges.n) at c.if-n-lt0.true))

@@ -23,7 +23,7 @@ loop-i-preserved c =
     let more = f.loop-i-test.true in (
       (search rules, omega (arith, l.loop-i.invariant.0.1, c.used_by-k.ensures.1)),
       omega (arith, marks_more t l.loop-i.i more, c.used_by-k.ensures.0, l.loop-i.invariant.1),
-      rw (filled_more t s.args.xs.now s.args.first l.loop-i.i more, ← l.loop-i.invariant.1, ← f.number_at.ensures) (within (omega arith) (also l.loop-i.invariant.2 (rw (to_z-of_z {w = w64} (record { sfits = f.number_at.type-inv })) at f.put_filler-next.ensures))),
+      rw (filled_more t s.args.xs.now s.args.first l.loop-i.i more, ← l.loop-i.invariant.1, ← f.number_at.ensures) (within (omega arith) (also l.loop-i.invariant.2 (rw (to_z-of_z {w = w64} (record { sfits = f.number_at.type_inv })) at f.put_filler-next.ensures))),
     )
 
 pub returns : goal.returns

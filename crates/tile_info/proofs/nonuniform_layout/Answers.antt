@@ -25,7 +25,7 @@ unless true h = absurd (h refl)
 unless false h = refl
 
 -- a layout that is refused has more than 64 superblocks across or down
-needed : (h : goal.After-at_most_64-2) → let s = h in
+needed : (h : goal.After-slice_known-then-is_refusal-2-1) → let s = h in
     is_refusal (read s).answer ≡ true → not (h.at_most_64.result && h.at_most_64-2.result) ≡ true
 needed h refused =
     let s = h in

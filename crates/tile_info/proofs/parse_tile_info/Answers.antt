@@ -17,6 +17,6 @@ returns c =
     let t = k.thdr in
     let put = p.put_tile_info.ensures in
     let a = args_of k.sbmul k.sb128 k.seq_sb128 k.w k.h k.level k.tier in
-    let has = ap has_room put.0 ∙ put_room t _ (cols_length t _ s.well-formed.1.1.0) (rows_length t _ s.well-formed.1.1.0) refl in
+    let has = ap has_room put.0 ∙ put_room t _ (cols_length t _ s.well_formed.1.1.0) (rows_length t _ s.well_formed.1.1.0) refl in
     promised k.s.now k.p t a
     (whole_read k.s.now k.p t a _ (put.1 refl) (r.parse_tile_info_into-r.ensures.fact.0 has) (rw (to_z-of_z f.sbmul, to_z-of_z f.w, to_z-of_z f.h) refl) c.tile_info_of-info.ensures)

@@ -21,14 +21,6 @@ asked s =
     let a = s.args in
     args_of a.sbmul a.sb128 a.seq_sb128 a.w a.h a.level a.tier
 
-made : (c : goal.After-tile_args-a) → c.tile_args-a.result ≡ asked c
-made c =
-    let f = c.ranges in
-    rw (to_z-of_z f.sbmul, to_z-of_z f.w, to_z-of_z f.h) at c.tile_args-a.ensures
-
-has : (e : goal.Else-not-has_room) → has_room (given e) ≡ true
-has e = sym e.has_room.ensures ∙ not-false e.has_room.result e.if-not-has_room.false
-
 pub returns-then-not-has_room : goal.returns-then-not-has_room
 unfolding parse_tile_info_into
 returns-then-not-has_room c =
@@ -39,26 +31,33 @@ returns-then-not-has_room c =
 
 pub read_layout-requires : goal.read_layout-requires
 read_layout-requires c =
+    let has : has_room (given c) ≡ true = sym c.has_room.ensures ∙ not-false c.has_room.result c.if-not-has_room.false in
     let t = c in
-    (sym t.in_domain_lem.ensures ∙ t.if-in_domain.true, has t)
+    (sym t.in_domain_lem.ensures ∙ t.if-in_domain.true, has)
 
 pub returns-then-in_domain : goal.returns-then-in_domain
 unfolding parse_tile_info_into
 returns-then-in_domain c =
+    let made : c.tile_args-a.result ≡ asked c = let f = c.ranges in
+    rw (to_z-of_z f.sbmul, to_z-of_z f.w, to_z-of_z f.h) at c.tile_args-a.ensures in
+    let has : has_room (given c) ≡ true = sym c.has_room.ensures ∙ not-false c.has_room.result c.if-not-has_room.false in
     let r = c in
     let m = r in
     let e = m in
     let s = e in
-    let put = r.read_layout.ensures ∙ ap (λ (a : TileArgs). read_into (parse_tile_info s.args.s.now s.args.p (layout_in (given s)) a) (given s)) (made m) in
-    what-is-left s.args.s.now s.args.p (given s) (asked s) (put ∙ sym (taken _ _ _ (has e))) c.cols-1.given c.rows-1.given
+    let put = r.read_layout.ensures ∙ ap (λ (a : TileArgs). read_into (parse_tile_info s.args.s.now s.args.p (layout_in (given s)) a) (given s)) (made) in
+    what-is-left s.args.s.now s.args.p (given s) (asked s) (put ∙ sym (taken _ _ _ (has))) c.cols-1.given c.rows-1.given
 
 pub returns : goal.returns
 unfolding parse_tile_info_into parse_tile_info
 returns c =
+    let made : c.tile_args-a.result ≡ asked c = let f = c.ranges in
+    rw (to_z-of_z f.sbmul, to_z-of_z f.w, to_z-of_z f.h) at c.tile_args-a.ensures in
+    let has : has_room (given c) ≡ true = sym c.has_room.ensures ∙ not-false c.has_room.result c.if-not-has_room.false in
     let e = c in
     let m = e in
     let h = m in
     let s = h in
-    let out = ap in_domain (sym (made m)) ∙ sym e.in_domain_lem.ensures ∙ e.if-in_domain.false in
+    let out = ap in_domain (sym (made)) ∙ sym e.in_domain_lem.ensures ∙ e.if-in_domain.false in
     what-is-left s.args.s.now s.args.p (given s) (asked s)
-    (rw c.unread-2.ensures (sym (taken _ _ _ (has h) ∙ ap (λ (z : TileRead). read_into z (given s)) (left _ _ _ out)))) refl refl
+    (rw c.unread-2.ensures (sym (taken _ _ _ (has) ∙ ap (λ (z : TileRead). read_into z (given s)) (left _ _ _ out)))) refl refl

@@ -24,15 +24,9 @@ given s = buffers s.args.info.now s.args.cols.now s.args.rows.now
 abbrev flag : goal.Start → Place
 flag s = (read_bits s.args.s.now s.args.p 1).next
 
-flag_is : (s : goal.Start) → flag s ≡ (get_flag s.args.s.now s.args.p).next
+flag_is : (s : goal.After-result-1) → flag s ≡ (get_flag s.args.s.now s.args.p).next
 unfolding get_flag get_bit
 flag_is s = refl
-
-across : (l : goal.After-read_log2-c) → let s = l in let z = read_log2 s.args.s.now (flag s) s.args.k.min_log2_cols s.args.k.max_log2_cols in
-    (l.read_log2-c.result.log2 ≡ z.value) × ((read_bits s.args.s.now s.args.p l.read_log2-c.result.used).next ≡ z.next)
-across l =
-    let s = l in
-    l.read_log2-c.ensures.reads s.args.s.now s.args.p s.requires.known.1.0
 
 pub read_log2-c-requires : goal.read_log2-c-requires
 read_log2-c-requires c =
@@ -42,12 +36,14 @@ read_log2-c-requires c =
 
 pub read_log2-r-requires : goal.read_log2-r-requires
 read_log2-r-requires c =
+    let across : let s = c in let z = read_log2 s.args.s.now (flag s) s.args.k.min_log2_cols s.args.k.max_log2_cols in (c.read_log2-c.result.log2 ≡ z.value) × ((read_bits s.args.s.now s.args.p c.read_log2-c.result.used).next ≡ z.next) = let s = c in
+    c.read_log2-c.ensures.reads s.args.s.now s.args.p s.requires.known.1.0 in
     let z = c in
     let s = z in
     let d = domain s.args.a s.requires.a_value in
     let k = s.requires.known.0 in
     let l = log_read s.args.s.now (flag s) s.args.k.min_log2_cols s.args.k.max_log2_cols in (
-      omega (arith, c.usub-min_log2_rows.ensures, k.min_tiles, k.min_cols, (across z).0, l, min_rows s.args.a d z.read_log2-c.result.log2 (omega (arith, k.min_cols, (across z).0, l))),
+      omega (arith, c.usub-min_log2_rows.ensures, k.min_tiles, k.min_cols, (across).0, l, min_rows s.args.a d z.read_log2-c.result.log2 (omega (arith, k.min_cols, (across).0, l))),
       omega (arith, k.max_rows, max_rows _ d),
       omega (arith, z.read_log2-c.ensures.low.0.1),
     )
@@ -68,6 +64,8 @@ uniform_starts-n_rows-requires c =
 
 pub returns : goal.returns
 returns c =
+    let across : let s = c in let z = read_log2 s.args.s.now (flag s) s.args.k.min_log2_cols s.args.k.max_log2_cols in (c.read_log2-c.result.log2 ≡ z.value) × ((read_bits s.args.s.now s.args.p c.read_log2-c.result.used).next ≡ z.next) = let s = c in
+    c.read_log2-c.ensures.reads s.args.s.now s.args.p s.requires.known.1.0 in
     let b = c in
     let i = b in
     let y = i in
@@ -84,7 +82,7 @@ returns c =
     let cn = (read_bits bytes p l.read_log2-c.result.used).next in
     let made =
     uniform_made bytes (flag s) s.requires.known.0 l.read_log2-c.result.log2 r.read_log2-r.result.log2 cn _ _ _ _ _ _
-    (across l).0 (across l).1 u.usub-min_log2_rows.ensures down.0 down.1
+    (across).0 (across).1 u.usub-min_log2_rows.ensures down.0 down.1
     x.uniform_starts-n_cols.ensures.0 refl y.uniform_starts-n_rows.ensures.0 refl in
     let next = ap (λ (n : Number). n.next) (as_read bytes p r.read_log2-r.result.used (omega (arith, l.read_log2-c.ensures.low.0.1, r.read_log2-r.ensures.low.0.1)) b.read_bits-behind.ensures) in
     rw (← flag_is s) (

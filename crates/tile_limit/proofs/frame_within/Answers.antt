@@ -4,13 +4,14 @@ use Rattle.frame_layout.specs.Frame.{frame_tiles}
 use Rattle.tile_limit.specs.Within.{is_too_many, frame_within}
 use Rattle.tile_limit.proofs.frame_within.Goals as goal
 
-asked : (c : goal.After-is_too_many) → c.is_too_many.result ≡ is_too_many c.args.limit (frame_tiles c.args.r)
-asked c = c.is_too_many.ensures ∙ ap (is_too_many c.args.limit) c.frame_tiles.ensures
-
 pub returns-then-is_too_many : goal.returns-then-is_too_many
 unfolding frame_within
-returns-then-is_too_many c = sym (taken _ _ _ (sym (asked c) ∙ c.if-is_too_many.true))
+returns-then-is_too_many c =
+    let asked : c.is_too_many.result ≡ is_too_many c.args.limit (frame_tiles c.args.r) = c.is_too_many.ensures ∙ ap (is_too_many c.args.limit) c.frame_tiles.ensures in
+    sym (taken _ _ _ (sym (asked) ∙ c.if-is_too_many.true))
 
 pub returns : goal.returns
 unfolding frame_within
-returns c = sym (left _ _ _ (sym (asked c) ∙ c.if-is_too_many.false))
+returns c =
+    let asked : c.is_too_many.result ≡ is_too_many c.args.limit (frame_tiles c.args.r) = c.is_too_many.ensures ∙ ap (is_too_many c.args.limit) c.frame_tiles.ensures in
+    sym (left _ _ _ (sym (asked) ∙ c.if-is_too_many.false))

@@ -25,29 +25,41 @@ use Rattle.tile_request.proofs.request_over.Goals as goal
 abbrev read : List ℕ → List ℕ → TileInfo → ℤ → ℤ → ℤ → TileRead
 read s bits old m w h = parse_tile_info bits (place_at 0 false) old (args_of m (get_or s 4 0) (get_or s 5 0) w h (get_or s 6 0) (get_or s 7 0))
 
--- an input of eight bytes or more
-long : (c : goal.Then-is_request) → 8 ≤ length c.args.s.now
-long c =
-    let s = c.args.s.now in
-    leb-true 8 (length s) (both (leb 8 (length s)) (leb (length s) 65536) (sym c.is_request.ensures ∙ c.if-is_request.true)).0
-
 pub bounds-s-4 : goal.bounds-s-4
-bounds-s-4 c = omega (arith, long c)
+bounds-s-4 c =
+    let long : 8 ≤ length c.args.s.now = let s = c.args.s.now in
+    leb-true 8 (length s) (both (leb 8 (length s)) (leb (length s) 65536) (sym c.is_request.ensures ∙ c.if-is_request.true)).0 in
+    omega (arith, long)
 
 pub bounds-s-5 : goal.bounds-s-5
-bounds-s-5 c = omega (arith, long c)
+bounds-s-5 c =
+    let long : 8 ≤ length c.args.s.now = let s = c.args.s.now in
+    leb-true 8 (length s) (both (leb 8 (length s)) (leb (length s) 65536) (sym c.is_request.ensures ∙ c.if-is_request.true)).0 in
+    omega (arith, long)
 
 pub slice_bounds-parse_tile_info-count : goal.slice_bounds-parse_tile_info-count
-slice_bounds-parse_tile_info-count c = long c
+slice_bounds-parse_tile_info-count c =
+    let long : 8 ≤ length c.args.s.now = let s = c.args.s.now in
+    leb-true 8 (length s) (both (leb 8 (length s)) (leb (length s) 65536) (sym c.is_request.ensures ∙ c.if-is_request.true)).0 in
+    long
 
 pub slice_bounds-parse_tile_info-start : goal.slice_bounds-parse_tile_info-start
-slice_bounds-parse_tile_info-start c = long c
+slice_bounds-parse_tile_info-start c =
+    let long : 8 ≤ length c.args.s.now = let s = c.args.s.now in
+    leb-true 8 (length s) (both (leb 8 (length s)) (leb (length s) 65536) (sym c.is_request.ensures ∙ c.if-is_request.true)).0 in
+    long
 
 pub bounds-s-6 : goal.bounds-s-6
-bounds-s-6 c = omega (arith, long c)
+bounds-s-6 c =
+    let long : 8 ≤ length c.args.s.now = let s = c.args.s.now in
+    leb-true 8 (length s) (both (leb 8 (length s)) (leb (length s) 65536) (sym c.is_request.ensures ∙ c.if-is_request.true)).0 in
+    omega (arith, long)
 
 pub bounds-s-7 : goal.bounds-s-7
-bounds-s-7 c = omega (arith, long c)
+bounds-s-7 c =
+    let long : 8 ≤ length c.args.s.now = let s = c.args.s.now in
+    leb-true 8 (length s) (both (leb 8 (length s)) (leb (length s) 65536) (sym c.is_request.ensures ∙ c.if-is_request.true)).0 in
+    omega (arith, long)
 
 pub returns-then-is_request : goal.returns-then-is_request
 unfolding request_over
@@ -61,9 +73,9 @@ returns-then-is_request c =
     let rest : take (length s - 8) (drop 8 s) ≡ drop 8 s = take_all (length s - 8) (drop 8 s) (simp length-drop (omega arith)) in
     c.parse_tile_info.ensures.value
     ∙ ap (λ (x : List ℕ). read s x a.old (to_z w32 (of_z w32 m.result)) (to_z w32 (of_z w32 w.result)) (to_z w32 (of_z w32 h.result))) rest
-    ∙ ap (λ (x : ℤ). read s (drop 8 s) a.old x (to_z w32 (of_z w32 w.result)) (to_z w32 (of_z w32 h.result))) (back m.result m.type-inv ∙ m.ensures)
-    ∙ ap (λ (x : ℤ). read s (drop 8 s) a.old (pos (multiplier_of (get_or s 4 0) (get_or s 5 0))) x (to_z w32 (of_z w32 h.result))) (back w.result w.type-inv ∙ w.ensures)
-    ∙ ap (λ (x : ℤ). read s (drop 8 s) a.old (pos (multiplier_of (get_or s 4 0) (get_or s 5 0))) (pos (samples_at s 0)) x) (back h.result h.type-inv ∙ h.ensures)
+    ∙ ap (λ (x : ℤ). read s (drop 8 s) a.old x (to_z w32 (of_z w32 w.result)) (to_z w32 (of_z w32 h.result))) (back m.result m.type_inv ∙ m.ensures)
+    ∙ ap (λ (x : ℤ). read s (drop 8 s) a.old (pos (multiplier_of (get_or s 4 0) (get_or s 5 0))) x (to_z w32 (of_z w32 h.result))) (back w.result w.type_inv ∙ w.ensures)
+    ∙ ap (λ (x : ℤ). read s (drop 8 s) a.old (pos (multiplier_of (get_or s 4 0) (get_or s 5 0))) (pos (samples_at s 0)) x) (back h.result h.type_inv ∙ h.ensures)
     ∙ sym (taken _ _ _ (sym t.is_request.ensures ∙ t.if-is_request.true))
 
 pub returns : goal.returns

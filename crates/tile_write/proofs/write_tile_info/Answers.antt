@@ -33,14 +33,6 @@ given s =
 abbrev begin : goal.After-in_domain → goal.Start
 begin c = c.before.before.before
 
-made : (c : goal.After-in_domain) → c.tile_args-a.result ≡ given (begin c)
-made c =
-    let f = (begin c).ranges in
-    rw (to_z-of_z f.sbmul, to_z-of_z f.w, to_z-of_z f.h) at c.tile_args-a.ensures
-
-domain_asked : (c : goal.After-in_domain) → c.in_domain_lem.result ≡ in_domain (given (begin c))
-domain_asked c = c.in_domain_lem.ensures ∙ ap in_domain (made c)
-
 -- behind the question about the domain
 abbrev row_made : goal.After-reads_as → goal.After-layout_row-row
 row_made c = c.before.before.before.before.before
@@ -90,6 +82,14 @@ module _ (k : goal.Else-not-reads_as) where
 
 abbrev asked-room : goal.After-bytes-3-1 → goal.Else-out-n
 asked-room c = c.before.before
+
+made : (c : goal.After-refused) → c.tile_args-a.result ≡ given (begin c)
+made c =
+    let f = (begin c).ranges in
+    rw (to_z-of_z f.sbmul, to_z-of_z f.w, to_z-of_z f.h) at c.tile_args-a.ensures
+
+domain_asked : (c : goal.After-refused) → c.in_domain_lem.result ≡ in_domain (given (begin c))
+domain_asked c = c.in_domain_lem.ensures ∙ ap in_domain (made c)
 
 pub returns-then-not-in_domain : goal.returns-then-not-in_domain
 unfolding write_tile_info

@@ -9,10 +9,10 @@ use Rattle.verdicts.proofs.same.Goals as goal
 
 -- the stored number as a signed one, read back from its bits
 read : (c : goal.After-signed) → to_z w32 (of_z w32 c.signed.result) ≡ c.signed.result
-read c = back c.signed.result c.signed.type-inv
+read c = back c.signed.result c.signed.type_inv
 
 wide : (c : goal.After-signed) → SFits w64 c.signed.result
-wide c = record { sfits = lt_of_lt_of_le c.signed.type-inv (lit≤ tt) }
+wide c = record { sfits = lt_of_lt_of_le c.signed.type_inv (lit≤ tt) }
 
 pub overflow_cast-result-2 : goal.overflow_cast-result-2
 overflow_cast-result-2 c = rw (read c) (wide c)

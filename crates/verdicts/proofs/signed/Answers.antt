@@ -12,7 +12,7 @@ returns-then-n-lt2147483648 c = let n = c.args.n in to_z_pos w32 n (omega arith)
 pub returns : goal.returns
 returns c =
     let n = c.args.n in
-    back c.below_zero.result c.below_zero.type-inv
+    back c.below_zero.result c.below_zero.type_inv
     ∙ c.below_zero.ensures
     ∙ ap negsuc (omega arith)
     ∙ sign_above 32 n (omega arith) (omega arith)

@@ -18,4 +18,4 @@ returns c =
     let h = height.samples-h in
     let s = pair.args.s.now in
     let rest : take (length s - 8) (drop 8 s) ≡ drop 8 s = take_all (length s - 8) (drop 8 s) (simp length-drop (omega arith)) in
-    rw (back m.result m.type-inv, back w.result w.type-inv, back h.result h.type-inv, m.ensures, w.ensures, h.ensures, t.ensures, rest) at p.write_tile_info.ensures.out_after
+    rw (back m.result m.type_inv, back w.result w.type_inv, back h.result h.type_inv, m.ensures, w.ensures, h.ensures, t.ensures, rest) at p.write_tile_info.ensures.out_after

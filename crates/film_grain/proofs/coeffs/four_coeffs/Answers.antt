@@ -11,7 +11,6 @@ use mir.Syntax.{w8}
 use mir.Val.{to_z, of_z}
 use Rattle.getbits.specs.Bits.{bits_at, bit_count, position, place_at, get_bits}
 use Rattle.getbits.specs.declared.Place.{Place}
-use Rattle.getbits.proofs.Callers.{power_below}
 use Rattle.getbits.proofs.Chain.{through}
 use Rattle.getbits.proofs.Fields.{bits_lt}
 use Rattle.getbits.proofs.Parts.{look_bits, skip_there, first_bits, first_read, last_read}
@@ -67,34 +66,9 @@ twice n h =
     let f : 2 ^ n ≡ 2 ^ (n - 1) * 2 = ap (λ (m : ℕ). 2 ^ m) e ∙ pow-suc 2 (n - 1) in
     omega (arith, f)
 
-range : (s : goal.Start) → 2 * s.args.half ≡ 2 ^ s.args.coef_bits
-range s = omega (arith, twice s.args.coef_bits s.requires.0, s.requires.2)
-
-small_half : (s : goal.Start) → s.args.half ≤ 128
-small_half s = omega (arith, s.requires.2, pow_mono {i = s.args.coef_bits - 1} {j = 7} (omega (arith, s.requires.1)))
-
-all_bits_lem : (c : goal.After-look_ahead-w) → let a = c.args in c.look_ahead-w.result ≡ bits_at a.s.now (position a.s.now a.p) (4 * a.coef_bits)
-all_bits_lem c = let s = c in look_bits s.args.s.now s.args.p (4 * s.args.coef_bits) (omega (arith, s.requires.1)) c.look_ahead-w.ensures
-
-low : (c : goal.After-power-low) → c.power-low.result ≡ 2 ^ c.args.coef_bits
-low c = power_below (omega (arith, c.requires.1)) c.power-low.ensures.0
-
 -- the rest of a division
 rest : (c : goal.After-power-low) (x : ℕ) → x % c.power-low.result < 2 * c.args.half
 rest c x = let s = c in rw (low c) (omega (arith, mod-lt x (pow_pos s.args.coef_bits), range s))
-
--- the numbers, read back from their bits
-back : (c : goal.After-centred) → to_z w8 (of_z w8 c.centred.result) ≡ c.centred.result
-back c = search rules
-
-back_2 : (c : goal.After-centred-2) → to_z w8 (of_z w8 c.centred-2.result) ≡ c.centred-2.result
-back_2 c = search rules
-
-back_3 : (c : goal.After-centred-3) → to_z w8 (of_z w8 c.centred-3.result) ≡ c.centred-3.result
-back_3 c = search rules
-
-back_4 : (c : goal.After-centred-4) → to_z w8 (of_z w8 c.centred-4.result) ≡ c.centred-4.result
-back_4 c = search rules
 
 -- a coefficient out of such a rest
 centred_rest : (c : goal.After-power-low) (x : ℕ) {r : ℤ} → let a = c.args in
@@ -103,32 +77,57 @@ centred_rest c x e =
     let s = c in
     e ∙ ap (λ (m : ℕ). pos (x % m) -ℤ pos s.args.half) (low c) ∙ ap (λ (h : ℕ). pos (x % 2 ^ s.args.coef_bits) -ℤ pos h) s.requires.2
 
+range : (s : goal.After-power-low) → 2 * s.args.half ≡ 2 ^ s.args.coef_bits
+range s = omega (arith, twice s.args.coef_bits s.requires.0, s.requires.2)
+
+-- the numbers, read back from their bits
+back : (c : goal.After-skip) → to_z w8 (of_z w8 c.centred.result) ≡ c.centred.result
+back c = search rules
+
+back_2 : (c : goal.After-skip) → to_z w8 (of_z w8 c.centred-2.result) ≡ c.centred-2.result
+back_2 c = search rules
+
+back_3 : (c : goal.After-skip) → to_z w8 (of_z w8 c.centred-3.result) ≡ c.centred-3.result
+back_3 c = search rules
+
+back_4 : (c : goal.After-skip) → to_z w8 (of_z w8 c.centred-4.result) ≡ c.centred-4.result
+back_4 c = search rules
+
 pub centred-requires : goal.centred-requires
 centred-requires c =
+    let small_half : c.args.half ≤ 128 = omega (arith, c.requires.2, pow_mono {i = c.args.coef_bits - 1} {j = 7} (omega (arith, c.requires.1))) in
+    let all_bits_lem : let a = c.args in c.look_ahead-w.result ≡ bits_at a.s.now (position a.s.now a.p) (4 * a.coef_bits) = let s = c in look_bits s.args.s.now s.args.p (4 * s.args.coef_bits) (omega (arith, s.requires.1)) c.look_ahead-w.ensures in
     let s = c in
     let a = s.args in
-    (omega (arith, first_lt a.s.now a.p a.coef_bits c.look_ahead-w.result s.requires.1 s.requires.4 (all_bits_lem c), range s), small_half s)
+    (omega (arith, first_lt a.s.now a.p a.coef_bits c.look_ahead-w.result s.requires.1 s.requires.4 (all_bits_lem), range s), small_half)
 
 pub centred-requires-2 : goal.centred-requires-2
-centred-requires-2 c = let k = c in (rest k _, small_half k)
+centred-requires-2 c =
+    let small_half : c.args.half ≤ 128 = omega (arith, c.requires.2, pow_mono {i = c.args.coef_bits - 1} {j = 7} (omega (arith, c.requires.1))) in
+    let k = c in (rest k _, small_half)
 
 pub bounds-coeffs-i-2 : goal.bounds-coeffs-i-2
 bounds-coeffs-i-2 c = simp length-set (omega (arith, c.requires.3))
 
 pub centred-requires-3 : goal.centred-requires-3
-centred-requires-3 c = let k = c in (rest k _, small_half k)
+centred-requires-3 c =
+    let small_half : c.args.half ≤ 128 = omega (arith, c.requires.2, pow_mono {i = c.args.coef_bits - 1} {j = 7} (omega (arith, c.requires.1))) in
+    let k = c in (rest k _, small_half)
 
 pub bounds-coeffs-i-3 : goal.bounds-coeffs-i-3
 bounds-coeffs-i-3 c = simp length-set (omega (arith, c.requires.3))
 
 pub centred-requires-4 : goal.centred-requires-4
-centred-requires-4 c = let k = c in (rest k _, small_half k)
+centred-requires-4 c =
+    let small_half : c.args.half ≤ 128 = omega (arith, c.requires.2, pow_mono {i = c.args.coef_bits - 1} {j = 7} (omega (arith, c.requires.1))) in
+    let k = c in (rest k _, small_half)
 
 pub bounds-coeffs-i-4 : goal.bounds-coeffs-i-4
 bounds-coeffs-i-4 c = simp length-set (omega (arith, c.requires.3))
 
 pub returns : goal.returns
 returns c =
+    let all_bits_lem : let a = c.args in c.look_ahead-w.result ≡ bits_at a.s.now (position a.s.now a.p) (4 * a.coef_bits) = let s = c in look_bits s.args.s.now s.args.p (4 * s.args.coef_bits) (omega (arith, s.requires.1)) c.look_ahead-w.ensures in
     let k4 = c in
     let k3 = k4 in
     let k2 = k3 in
@@ -142,4 +141,4 @@ returns c =
     let v3 = centred_rest k (w / 2 ^ a.coef_bits) k3.centred-3.ensures in
     let v4 = centred_rest k w k4.centred-4.ensures in
     rw (back k1 ∙ v1, back_2 k2 ∙ v2, back_3 k3 ∙ v3, back_4 k4 ∙ v4, skip_there a.s.now a.p (4 * a.coef_bits) s.requires.4 c.skip.ensures)
-    (four a.s.now a.p a.coef_bits w s.requires.1 s.requires.4 (all_bits_lem k) a.i a.coeffs.now)
+    (four a.s.now a.p a.coef_bits w s.requires.1 s.requires.4 (all_bits_lem) a.i a.coeffs.now)

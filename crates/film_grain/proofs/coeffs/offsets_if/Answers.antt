@@ -26,37 +26,37 @@ module _ (s : List ℕ) (p : Place) (w : ℕ) (room : position s p + 25 ≤ bit_
   offset : record { value = pos (w % 512) -ℤ pos 256; next = place_at (position s p + 25) p.error } ≡ bits_less s (place_at (position s p + 16) p.error) 9 256
   offset = sym (less_read s _ 9 256 (last_read s p 16 9 w room e (omega arith)))
 
-room : (c : goal.After-look_ahead-w) → let a = c.args in position a.s.now a.p + 25 ≤ bit_count a.s.now
+room : (c : goal.After-skip) → let a = c.args in position a.s.now a.p + 25 ≤ bit_count a.s.now
 room c = let a = c.args in more_there a.s.now a.p 25 c.more_than.ensures c.if-more_than.true
 
-all_bits_lem : (c : goal.After-look_ahead-w) → let a = c.args in c.look_ahead-w.result ≡ bits_at a.s.now (position a.s.now a.p) 25
-all_bits_lem c = let a = c.args in look_bits a.s.now a.p 25 (omega arith) c.look_ahead-w.ensures
-
 -- the numbers, read back from their bits
-back : (c : goal.After-minus) → to_z w16 (of_z w16 c.minus.result) ≡ c.minus.result
+back : (c : goal.After-skip) → to_z w16 (of_z w16 c.minus.result) ≡ c.minus.result
 back c = search rules
 
-back_2 : (c : goal.After-minus-then-more_than) → to_z w16 (of_z w16 c.minus-then-more_than.result) ≡ c.minus-then-more_than.result
+back_2 : (c : goal.After-skip) → to_z w16 (of_z w16 c.minus-then-more_than.result) ≡ c.minus-then-more_than.result
 back_2 c = search rules
 
-back_3 : (c : goal.After-minus-then-more_than-2) → to_z w16 (of_z w16 c.minus-then-more_than-2.result) ≡ c.minus-then-more_than-2.result
+back_3 : (c : goal.After-skip) → to_z w16 (of_z w16 c.minus-then-more_than-2.result) ≡ c.minus-then-more_than-2.result
 back_3 c = search rules
 
-back_4 : (c : goal.After-bits_less-mult) → to_z w16 (of_z w16 c.bits_less-mult.result.value) ≡ c.bits_less-mult.result.value
+back_4 : (c : goal.After-struct_told-then-cond-2-1) → to_z w16 (of_z w16 c.bits_less-mult.result.value) ≡ c.bits_less-mult.result.value
 back_4 c = search rules
 
-back_5 : (c : goal.After-bits_less-luma_mult) → to_z w16 (of_z w16 c.bits_less-luma_mult.result.value) ≡ c.bits_less-luma_mult.result.value
+back_5 : (c : goal.After-struct_told-then-cond-2-1) → to_z w16 (of_z w16 c.bits_less-luma_mult.result.value) ≡ c.bits_less-luma_mult.result.value
 back_5 c = search rules
 
-back_6 : (c : goal.After-bits_less-offset) → to_z w16 (of_z w16 c.bits_less-offset.result.value) ≡ c.bits_less-offset.result.value
+back_6 : (c : goal.After-struct_told-then-cond-2-1) → to_z w16 (of_z w16 c.bits_less-offset.result.value) ≡ c.bits_less-offset.result.value
 back_6 c = search rules
 
 pub minus-requires : goal.minus-requires
-minus-requires c = let a = c.args in (omega (arith, all_bits_lem c, bits_lt a.s.now (position a.s.now a.p) 25), omega arith)
+minus-requires c =
+    let all_bits_lem : let a = c.args in c.look_ahead-w.result ≡ bits_at a.s.now (position a.s.now a.p) 25 = let a = c.args in look_bits a.s.now a.p 25 (omega arith) c.look_ahead-w.ensures in
+    let a = c.args in (omega (arith, all_bits_lem, bits_lt a.s.now (position a.s.now a.p) 25), omega arith)
 
 pub returns-then-more_than : goal.returns-then-more_than
 unfolding offsets_if
 returns-then-more_than c =
+    let all_bits_lem : let a = c.args in c.look_ahead-w.result ≡ bits_at a.s.now (position a.s.now a.p) 25 = let a = c.args in look_bits a.s.now a.p 25 (omega arith) c.look_ahead-w.ensures in
     let k3 = c in
     let k2 = k3 in
     let k1 = k2 in
@@ -64,9 +64,9 @@ returns-then-more_than c =
     let a = k.args in
     let w = k.look_ahead-w.result in
     rw (k.if-cond.true, back k1, back_2 k2, back_3 k3, k1.minus.ensures, k2.minus-then-more_than.ensures, k3.minus-then-more_than-2.ensures, skip_there a.s.now a.p 25 (room k) c.skip.ensures)
-    (sym (through _ _ (mult a.s.now a.p w (room k) (all_bits_lem k))
-    ∙ through _ _ (luma_mult a.s.now a.p w (room k) (all_bits_lem k))
-    ∙ through _ _ (offset a.s.now a.p w (room k) (all_bits_lem k))))
+    (sym (through _ _ (mult a.s.now a.p w (room k) (all_bits_lem))
+    ∙ through _ _ (luma_mult a.s.now a.p w (room k) (all_bits_lem))
+    ∙ through _ _ (offset a.s.now a.p w (room k) (all_bits_lem))))
 
 pub returns-then-cond : goal.returns-then-cond
 unfolding offsets_if

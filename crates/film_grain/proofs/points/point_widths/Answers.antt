@@ -52,28 +52,28 @@ module _ (s : List ℕ) (p : Place) (w : ℕ) (room : position s p + 9 ≤ bit_c
   scaling : record { value = w % 4; next = place_at (position s p + 9) p.error } ≡ get_small s (place_at (position s p + 7) p.error) 2
   scaling = sym (uncut _ _ 2 (omega arith) (last_read s p 7 2 w room e (omega arith)))
 
-room : (c : goal.After-look_ahead-w) → let a = c.args in position a.s.now a.p + 9 ≤ bit_count a.s.now
-room c = let a = c.args in more_there a.s.now a.p 9 c.more_than.ensures c.if-more_than.true
-
-nine : (c : goal.After-look_ahead-w) → let a = c.args in c.look_ahead-w.result ≡ bits_at a.s.now (position a.s.now a.p) 9
-nine c = let a = c.args in look_bits a.s.now a.p 9 (omega arith) c.look_ahead-w.ensures
-
 pub overflow_cast-n : goal.overflow_cast-n
-overflow_cast-n c = omega (arith, nine c, bits_lt c.args.s.now (position c.args.s.now c.args.p) 9)
+overflow_cast-n c =
+    let nine : let a = c.args in c.look_ahead-w.result ≡ bits_at a.s.now (position a.s.now a.p) 9 = let a = c.args in look_bits a.s.now a.p 9 (omega arith) c.look_ahead-w.ensures in
+    omega (arith, nine, bits_lt c.args.s.now (position c.args.s.now c.args.p) 9)
 
 pub returns-then-n : goal.returns-then-n
 returns-then-n c =
+    let room : let a = c.args in position a.s.now a.p + 9 ≤ bit_count a.s.now = let a = c.args in more_there a.s.now a.p 9 c.more_than.ensures c.if-more_than.true in
+    let nine : let a = c.args in c.look_ahead-w.result ≡ bits_at a.s.now (position a.s.now a.p) 9 = let a = c.args in look_bits a.s.now a.p 9 (omega arith) c.look_ahead-w.ensures in
     let k = c in
     let a = k.args in
-    rw (skip_there a.s.now a.p 4 (omega (arith, room k)) c.skip.ensures) (without a.s.now a.p _ 1 5 (count a.s.now a.p k.look_ahead-w.result (room k) (nine k)) c.if-n.true, search rules)
+    rw (skip_there a.s.now a.p 4 (omega (arith, room)) c.skip.ensures) (without a.s.now a.p _ 1 5 (count a.s.now a.p k.look_ahead-w.result (room) (nine)) c.if-n.true, search rules)
 
 pub returns-then-more_than : goal.returns-then-more_than
 returns-then-more_than c =
+    let room : let a = c.args in position a.s.now a.p + 9 ≤ bit_count a.s.now = let a = c.args in more_there a.s.now a.p 9 c.more_than.ensures c.if-more_than.true in
+    let nine : let a = c.args in c.look_ahead-w.result ≡ bits_at a.s.now (position a.s.now a.p) 9 = let a = c.args in look_bits a.s.now a.p 9 (omega arith) c.look_ahead-w.ensures in
     let k = c in
     let a = k.args in
     let w = k.look_ahead-w.result in
-    rw (skip_there a.s.now a.p 9 (room k) c.skip-then-more_than.ensures) (
-      with_widths a.s.now a.p _ _ _ (count a.s.now a.p w (room k) (nine k)) (index a.s.now a.p w (room k) (nine k)) (scaling a.s.now a.p w (room k) (nine k)) c.if-n.false,
+    rw (skip_there a.s.now a.p 9 (room) c.skip-then-more_than.ensures) (
+      with_widths a.s.now a.p _ _ _ (count a.s.now a.p w (room) (nine)) (index a.s.now a.p w (room) (nine)) (scaling a.s.now a.p w (room) (nine)) c.if-n.false,
       (omega arith, omega arith, omega arith, omega arith),
     )
 

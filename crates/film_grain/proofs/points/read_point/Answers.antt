@@ -10,21 +10,19 @@ use Rattle.film_grain.proofs.Numbers.{uncut}
 use Rattle.film_grain.proofs.points.read_point.Goals as goal
 
 -- the bits of both numbers are there
-room : (c : goal.After-look_ahead-w) → let a = c.args in position a.s.now a.p + (a.index_bits + a.scaling_bits) ≤ bit_count a.s.now
+room : (c : goal.After-skip) → let a = c.args in position a.s.now a.p + (a.index_bits + a.scaling_bits) ≤ bit_count a.s.now
 room c = let a = c.args in more_there a.s.now a.p (a.index_bits + a.scaling_bits) c.more_than.ensures c.if-more_than.true
-
--- a value has at most eight bits
-low : (c : goal.After-power) → c.power.result ≡ 2 ^ c.args.scaling_bits
-low c = power_below (omega (arith, c.requires.3)) c.power.ensures.0
 
 pub overflow_cast-result : goal.overflow_cast-result
 overflow_cast-result c =
+    let low : c.power.result ≡ 2 ^ c.args.scaling_bits = power_below (omega (arith, c.requires.3)) c.power.ensures.0 in
     let s = c in
     let n = s.args.scaling_bits in
-    rw (low c) (omega (arith, mod-lt c.look_ahead-w.result (pow_pos n), pow_mono {i = n} {j = 8} s.requires.3))
+    record { fits = rw (low) (omega (arith, mod-lt c.look_ahead-w.result (pow_pos n), pow_mono {i = n} {j = 8} s.requires.3)) }
 
 pub returns-then-more_than : goal.returns-then-more_than
 returns-then-more_than c =
+    let low : c.power.result ≡ 2 ^ c.args.scaling_bits = power_below (omega (arith, c.requires.3)) c.power.ensures.0 in
     let k = c in
     let s = k in
     let a = s.args in
@@ -32,7 +30,7 @@ returns-then-more_than c =
     let e = look_bits a.s.now a.p (a.index_bits + a.scaling_bits) (omega (arith, s.requires.1, s.requires.3)) k.look_ahead-w.ensures in
     let step = first_read a.s.now a.p a.index_bits a.scaling_bits w (room k) e (omega (arith, s.requires.1)) in
     let value = last_read a.s.now a.p a.index_bits a.scaling_bits w (room k) e (omega (arith, s.requires.3)) in
-    rw (low k, skip_there a.s.now a.p (a.index_bits + a.scaling_bits) (room k) c.skip.ensures, step) (refl, sym (uncut _ _ a.scaling_bits s.requires.3 value))
+    rw (low, skip_there a.s.now a.p (a.index_bits + a.scaling_bits) (room k) c.skip.ensures, step) (refl, sym (uncut _ _ a.scaling_bits s.requires.3 value))
 
 pub returns : goal.returns
 returns c =

@@ -8,26 +8,21 @@ use Rattle.tile_layout.proofs.Domain.{domain, low_code, low_seq_code}
 use Rattle.frame_layout.specs.Frame.{is_off}
 use Rattle.frame_hdr.proofs.reuse.reuse_allowed.Goals as goal
 
--- tiling is not Off
-on : (c : goal.Else-is_off) → is_off c.args.present ≡ false
-on c = sym c.is_off.ensures ∙ c.if-is_off.false
-
-code : (c : goal.After-of-pair) → min c.of-pair.result.frame_code 2 ≡ c.args.a.frame_code
-code c = omega (arith, c.of-pair.ensures.0, low_code _ (domain _ c.requires.a_value))
-
 pub returns-then-is_off : goal.returns-then-is_off
 returns-then-is_off c = sym (taken _ _ _ (sym c.is_off.ensures ∙ c.if-is_off.true))
 
 pub returns-then-uniform : goal.returns-then-uniform
 returns-then-uniform c =
+    let on : is_off c.args.present ≡ false = sym c.is_off.ensures ∙ c.if-is_off.false in
+    let code : min c.of-pair.result.frame_code 2 ≡ c.args.a.frame_code = omega (arith, c.of-pair.ensures.0, low_code _ (domain _ c.requires.a_value)) in
     let k = c in
     let o = k in
     let s = o in
-    let small = s.requires.log2_cols_bound.0 (on o) in
+    let small = s.requires.log2_cols_bound.0 (on) in
     let w : s.args.log2_cols % 32 ≡ s.args.log2_cols = omega (arith, small.0) in
     let h : s.args.log2_rows % 32 ≡ s.args.log2_rows = omega (arith, small.1) in
-    rw (c.fits_uniform-then-uniform.ensures, c.fits_uniform.ensures, k.frame_count-sbh.ensures, k.frame_count-sbw.ensures, code o, w, h)
-    (sym (left _ _ _ (on o) ∙ taken _ _ _ c.if-uniform.true))
+    rw (c.fits_uniform-then-uniform.ensures, c.fits_uniform.ensures, k.frame_count-sbh.ensures, k.frame_count-sbw.ensures, code, w, h)
+    (sym (left _ _ _ (on) ∙ taken _ _ _ c.if-uniform.true))
 
 pub same_counts-requires : goal.same_counts-requires
 same_counts-requires c =
@@ -37,8 +32,10 @@ same_counts-requires c =
 
 pub returns : goal.returns
 returns c =
+    let on : is_off c.args.present ≡ false = sym c.is_off.ensures ∙ c.if-is_off.false in
+    let code : min c.of-pair.result.frame_code 2 ≡ c.args.a.frame_code = omega (arith, c.of-pair.ensures.0, low_code _ (domain _ c.requires.a_value)) in
     let k = c in
     let o = k in
     let s = o in
-    rw (c.same_counts.ensures, k.frame_count-sbh.ensures, k.frame_count-sbw.ensures, code o, o.of-pair.ensures.1, to_z-of_z s.ranges.max-width, to_z-of_z s.ranges.max-height)
-    (sym (left _ _ _ (on o) ∙ left _ _ _ c.if-uniform.false))
+    rw (c.same_counts.ensures, k.frame_count-sbh.ensures, k.frame_count-sbw.ensures, code, o.of-pair.ensures.1, to_z-of_z s.ranges.max-width, to_z-of_z s.ranges.max-height)
+    (sym (left _ _ _ (on) ∙ left _ _ _ c.if-uniform.false))

@@ -24,14 +24,7 @@ given s = buffers s.args.info.now s.args.cols.now s.args.rows.now
 abbrev theirs : goal.Start → Buffers
 theirs s = buffers s.args.seq-info.now s.args.seq-cols.now s.args.seq-rows.now
 
--- there are nine bytes to read
-nine : (k : goal.After-rows-1) → 9 ≤ length (theirs (start k)).bytes
-nine k = (start k).requires.1.1.0.0
-
-code : (o : goal.After-of-pair) → min o.of-pair.result.frame_code 2 ≡ (start o).args.a.frame_code
-code o = omega (arith, o.of-pair.ensures.0, low_code _ (domain _ (start o).requires.0))
-
-multiplied : (o : goal.After-of-pair) → multiplier_of o.of-pair.result.frame_code o.of-pair.result.seq_code ≡ (start o).args.a.multiplier
+multiplied : (o : goal.After-slice_known-6-1) → multiplier_of o.of-pair.result.frame_code o.of-pair.result.seq_code ≡ (start o).args.a.multiplier
 multiplied o =
     ap (λ (f : ℕ). multiplier_of f o.of-pair.result.seq_code) o.of-pair.ensures.0
     ∙ ap (multiplier_of (start o).args.a.frame_code) o.of-pair.ensures.1
@@ -39,23 +32,26 @@ multiplied o =
 
 pub reused_starts-requires : goal.reused_starts-requires
 reused_starts-requires c =
+    let code : min c.of-pair.result.frame_code 2 ≡ (start c).args.a.frame_code = omega (arith, c.of-pair.ensures.0, low_code _ (domain _ (start c).requires.0)) in
     let w = c in
     let o = w in
     let s = start o in
     let u = usable_tiles_lem _ _ _ s.pre.1.1.1.0 in
-    ((room (given s) s.pre.1.0).cols, u.few, u.low, rw (w.frame_count-sbw.ensures, code o) (across _ (domain _ s.pre.0)).most_all)
+    ((room (given s) s.pre.1.0).cols, u.few, u.low, rw (w.frame_count-sbw.ensures, code) (across _ (domain _ s.pre.0)).most_all)
 
 pub reused_starts-requires-2 : goal.reused_starts-requires-2
 reused_starts-requires-2 c =
+    let code : min c.of-pair.result.frame_code 2 ≡ (start c).args.a.frame_code = omega (arith, c.of-pair.ensures.0, low_code _ (domain _ (start c).requires.0)) in
     let h = c in
     let o = h in
     let s = start o in
     let u = usable_tiles_lem _ _ _ s.pre.1.1.1.1 in
-    ((room (given s) s.pre.1.0).rows, u.few, u.low, rw (h.frame_count-sbh.ensures, code o) (down _ (domain _ s.pre.0)).most_all)
+    ((room (given s) s.pre.1.0).rows, u.few, u.low, rw (h.frame_count-sbh.ensures, code) (down _ (domain _ s.pre.0)).most_all)
 
 pub returns : goal.returns
 unfolding reused_info
 returns c =
+    let code : min c.of-pair.result.frame_code 2 ≡ (start c).args.a.frame_code = omega (arith, c.of-pair.ensures.0, low_code _ (domain _ (start c).requires.0)) in
     let i = c in
     let f = i in
     let r = f in
@@ -70,8 +66,8 @@ returns c =
     let room = room b s.pre.1.0 in
     let roomy = has_room_lem seq (record { bytes = s.pre.1.1.0.0; cols = s.pre.1.1.0.1; rows = s.pre.1.1.0.2 }) in
     let t = reused_info a (Held seq) in
-    let cols = rw (multiplied o, w.frame_count-sbw.ensures, code o) at k.reused_starts.ensures in
-    let rows = rw (multiplied o, h.frame_count-sbh.ensures, code o) at r.reused_starts-2.ensures in
+    let cols = rw (multiplied o, w.frame_count-sbw.ensures, code) at k.reused_starts.ensures in
+    let rows = rw (multiplied o, h.frame_count-sbh.ensures, code) at r.reused_starts-2.ensures in
     put_over t b s.pre.1.0
     (rw f.is_set.ensures at i.put_layout_bytes.ensures)
     (in_front t.col_start_sb b.col_starts_lem room.cols cols)
@@ -79,28 +75,46 @@ returns c =
     ∙ ap (λ (x : TileInfo). put_layout (reused_info a x) b) (sym (held seq roomy))
 
 pub bounds-seq_info-0 : goal.bounds-seq_info-0
-bounds-seq_info-0 c = omega (arith, nine c)
+bounds-seq_info-0 c =
+    let nine : 9 ≤ length (theirs (start c)).bytes = (start c).requires.1.1.0.0 in
+    omega (arith, nine)
 
 pub bounds-seq_info-1 : goal.bounds-seq_info-1
-bounds-seq_info-1 c = omega (arith, nine c)
+bounds-seq_info-1 c =
+    let nine : 9 ≤ length (theirs (start c)).bytes = (start c).requires.1.1.0.0 in
+    omega (arith, nine)
 
 pub bounds-seq_info-2 : goal.bounds-seq_info-2
-bounds-seq_info-2 c = omega (arith, nine c)
+bounds-seq_info-2 c =
+    let nine : 9 ≤ length (theirs (start c)).bytes = (start c).requires.1.1.0.0 in
+    omega (arith, nine)
 
 pub bounds-seq_info-3 : goal.bounds-seq_info-3
-bounds-seq_info-3 c = omega (arith, nine c)
+bounds-seq_info-3 c =
+    let nine : 9 ≤ length (theirs (start c)).bytes = (start c).requires.1.1.0.0 in
+    omega (arith, nine)
 
 pub bounds-seq_info-4-2 : goal.bounds-seq_info-4-2
-bounds-seq_info-4-2 c = omega (arith, nine c)
+bounds-seq_info-4-2 c =
+    let nine : 9 ≤ length (theirs (start c)).bytes = (start c).requires.1.1.0.0 in
+    omega (arith, nine)
 
 pub bounds-seq_info-5 : goal.bounds-seq_info-5
-bounds-seq_info-5 c = omega (arith, nine c)
+bounds-seq_info-5 c =
+    let nine : 9 ≤ length (theirs (start c)).bytes = (start c).requires.1.1.0.0 in
+    omega (arith, nine)
 
 pub bounds-seq_info-6 : goal.bounds-seq_info-6
-bounds-seq_info-6 c = omega (arith, nine c)
+bounds-seq_info-6 c =
+    let nine : 9 ≤ length (theirs (start c)).bytes = (start c).requires.1.1.0.0 in
+    omega (arith, nine)
 
 pub bounds-seq_info-7 : goal.bounds-seq_info-7
-bounds-seq_info-7 c = omega (arith, nine c)
+bounds-seq_info-7 c =
+    let nine : 9 ≤ length (theirs (start c)).bytes = (start c).requires.1.1.0.0 in
+    omega (arith, nine)
 
 pub bounds-seq_info-8-2 : goal.bounds-seq_info-8-2
-bounds-seq_info-8-2 c = omega (arith, nine c)
+bounds-seq_info-8-2 c =
+    let nine : 9 ≤ length (theirs (start c)).bytes = (start c).requires.1.1.0.0 in
+    omega (arith, nine)

@@ -10,7 +10,7 @@ pub overflow_mul-result : goal.overflow_mul-result
 overflow_mul-result c =
     let t = c.u32_to_u64-tiles.result in
     let x = c.u32_to_u64-n.result + (t - 1) in
-    lt_of_le_of_lt {m = x} (rw (← count c) (part_le x t)) (search rules)
+    record { fits = lt_of_le_of_lt {m = x} (rw (← count c) (part_le x t)) (search rules) }
 
 pub returns : goal.returns
 unfolding fits_uniform

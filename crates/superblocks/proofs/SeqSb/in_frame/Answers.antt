@@ -3,10 +3,10 @@ use Rattle.superblocks.specs.Counts.{multiplier_of}
 use Rattle.superblocks.proofs.Counts.{not_doubled}
 use Rattle.superblocks.proofs.SeqSb.in_frame.Goals as goal
 
-double : (c : goal.After-doubles) → c.doubles.result ≡ true → multiplier_of c.args.pair.frame_code c.args.pair.seq_code ≡ 2
+double : (c : goal.After-wrapping_add_u32) → c.doubles.result ≡ true → multiplier_of c.args.pair.frame_code c.args.pair.seq_code ≡ 2
 double c e = eqb-true _ 2 (sym c.doubles.ensures ∙ e)
 
-single : (c : goal.After-doubles) → c.doubles.result ≡ false → multiplier_of c.args.pair.frame_code c.args.pair.seq_code ≡ 1
+single : (c : goal.Else-doubles) → c.doubles.result ≡ false → multiplier_of c.args.pair.frame_code c.args.pair.seq_code ≡ 1
 single c e = not_doubled _ _ (sym c.doubles.ensures ∙ e)
 
 pub returns-then-doubles : goal.returns-then-doubles

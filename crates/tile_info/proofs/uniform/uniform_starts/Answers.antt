@@ -16,43 +16,42 @@ F s = full_count s.args.a s.args.n
 abbrev T : goal.Start → ℕ
 T s = total_count s.args.a s.args.n
 
-al : (s : goal.Start) → Along s.args.a.frame_code s.args.a.multiplier (superblocks s.args.n s.args.a.frame_code) (F s) (T s)
-al s = let n = s.requires.coded.1 in along s.args.a (domain _ s.requires.a_value) s.args.n n.1 n.2
-
-few : (s : goal.Start) → count (F s) (T s) s.args.log2 ≤ 64
-few s =
-    let x = al s in
-    few_tiles (F s) (T s) s.args.log2 (T s) x.some_full x.full_le x.le_full (omega (arith, x.some_full, x.full_le)) (le-mul_of_pos_right (T s) (pow_pos s.args.log2)) s.requires.coded.1.4
-
--- the split is the definition's
-split : (c : goal.After-even_split-split) → let s = c in let r = c.even_split-split.result in
-    (r.tile.0 ≡ base (F s) s.args.log2) × (r.tiles.0 ≡ count (F s) (T s) s.args.log2) × (r.extra.0 ≡ larger (F s) (T s) s.args.log2)
+pub fill-requires : goal.fill-requires
 unfolding full_count
-split c =
-    let s = c in
+fill-requires c =
+    let al : Along c.args.a.frame_code c.args.a.multiplier (superblocks c.args.n c.args.a.frame_code) (F c) (T c) = let n = c.requires.coded.1 in along c.args.a (domain _ c.requires.a_value) c.args.n n.1 n.2 in
+    let few : count (F c) (T c) c.args.log2 ≤ 64 = let x = al in
+    few_tiles (F c) (T c) c.args.log2 (T c) x.some_full x.full_le x.le_full (omega (arith, x.some_full, x.full_le)) (le-mul_of_pos_right (T c) (pow_pos c.args.log2)) c.requires.coded.1.4 in
+    let split : let s = c in let r = c.even_split-split.result in (r.tile.0 ≡ base (F s) s.args.log2) × (r.tiles.0 ≡ count (F s) (T s) s.args.log2) × (r.extra.0 ≡ larger (F s) (T s) s.args.log2) = let s = c in
     let code = seq_code s.requires.a_value s.requires.coded.0 in
     let l : s.args.log2 % 32 ≡ s.args.log2 = omega (arith, s.requires.coded.1.4) in
     let f = rw code at c.full_count-fsb.ensures in
     let t = rw code at c.seq_count-ssb.ensures in
-    rw (l, f, t) at c.even_split-split.ensures
-
-pub fill-requires : goal.fill-requires
-fill-requires c =
+    rw (l, f, t) at c.even_split-split.ensures in
     let k = c in
     let s = k in
-    let al = al s in
-    let e = split k in (
+    let al = al in
+    let e = split in (
       s.requires.coded.1.0,
-      omega (arith, e.1, few s),
+      omega (arith, e.1, few),
       omega (arith, e.2, holds (F s) (T s) s.args.log2 al.full_le, al.most_seq, ap₂ ◌*◌ e.0 e.1),
       omega (arith, s.requires.coded.1.3, al.most_all),
     )
 
 pub returns : goal.returns
-unfolding start_at
+unfolding start_at full_count
 returns c =
+    let al : Along c.args.a.frame_code c.args.a.multiplier (superblocks c.args.n c.args.a.frame_code) (F c) (T c) = let n = c.requires.coded.1 in along c.args.a (domain _ c.requires.a_value) c.args.n n.1 n.2 in
+    let few : count (F c) (T c) c.args.log2 ≤ 64 = let x = al in
+    few_tiles (F c) (T c) c.args.log2 (T c) x.some_full x.full_le x.le_full (omega (arith, x.some_full, x.full_le)) (le-mul_of_pos_right (T c) (pow_pos c.args.log2)) c.requires.coded.1.4 in
+    let split : let s = c in let r = c.even_split-split.result in (r.tile.0 ≡ base (F s) s.args.log2) × (r.tiles.0 ≡ count (F s) (T s) s.args.log2) × (r.extra.0 ≡ larger (F s) (T s) s.args.log2) = let s = c in
+    let code = seq_code s.requires.a_value s.requires.coded.0 in
+    let l : s.args.log2 % 32 ≡ s.args.log2 = omega (arith, s.requires.coded.1.4) in
+    let f = rw code at c.full_count-fsb.ensures in
+    let t = rw code at c.seq_count-ssb.ensures in
+    rw (l, f, t) at c.even_split-split.ensures in
     let f = c in
     let k = f in
     let s = k in
-    let e = split k in
-    (omega (arith, c.number.ensures, e.1, few s), f.fill.ensures ∙ simp (e.0, e.1, e.2, s.requires.coded.1.3, multiplied s.requires.a_value s.requires.coded.0))
+    let e = split in
+    (omega (arith, c.number.ensures, e.1, few), f.fill.ensures ∙ simp (e.0, e.1, e.2, s.requires.coded.1.3, multiplied s.requires.a_value s.requires.coded.0))
