@@ -32,55 +32,32 @@ place s = place_of s.args.position.now s.args.error.now
 pub returns-then-hdr-lt146 : goal.returns-then-hdr-lt146
 unfolding lent_header
 returns-then-hdr-lt146 c =
-    let i = c in
-    let s = i in
-    let fails = first_fails _ (has_room (given s)) (lt-leb 146 (length s.args.hdr.now) i.if-hdr-lt146.true) in
-    (triple (row ShortBuffer (settled s.args.s.now (place s)) s.args.error.now refl c.settle_place.ensures) refl refl ∙ sym (left _ _ _ fails), (λ _. refl, (λ _. refl, (λ _. refl, (λ _. refl, (λ _ h. never_5 h, (λ _ h. never_5 h, (λ _ h. never_5 h, (λ _ h. never_5 h, λ h. absurd (h refl))))))))))
+    let fails = first_fails _ (has_room (given c)) (lt-leb 146 (length c.args.hdr.now) c.if-hdr-lt146.true) in
+    record { after_after = triple (row ShortBuffer (settled c.args.s.now (place c)) c.args.error.now refl c.settle_place.ensures) refl refl ∙ sym (left _ _ _ fails); hdr_unchanged = λ _. refl; info_unchanged = λ _. refl; col_start_sb_unchanged = λ _. refl; row_start_sb_unchanged = λ _. refl; hdr_after = λ _ h. never_5 h; info_after = λ _ h. never_5 h; col_start_sb_after = λ _ h. never_5 h; row_start_sb_after = λ _ h. never_5 h; fact = λ h. absurd (h refl) }
 
 pub returns-then-not-has_room : goal.returns-then-not-has_room
 unfolding lent_header
 returns-then-not-has_room c =
-    let i = c in
-    let s = i in
-    let lacks = sym i.has_room.ensures ∙ not-true i.has_room.result i.if-not-has_room.true in
-    let fails = second_fails (leb 146 (length s.args.hdr.now)) _ lacks in
-    (triple (row ShortBuffer (settled s.args.s.now (place s)) s.args.error.now refl c.settle_place-then-not-has_room.ensures) refl refl ∙ sym (left _ _ _ fails), (λ _. refl, (λ _. refl, (λ _. refl, (λ _. refl, (λ _ h. never_5 h, (λ _ h. never_5 h, (λ _ h. never_5 h, (λ _ h. never_5 h, λ h. absurd (h refl))))))))))
+    let lacks = sym c.has_room.ensures ∙ not-true c.has_room.result c.if-not-has_room.true in
+    let fails = second_fails (leb 146 (length c.args.hdr.now)) _ lacks in
+    record { after_after = triple (row ShortBuffer (settled c.args.s.now (place c)) c.args.error.now refl c.settle_place-then-not-has_room.ensures) refl refl ∙ sym (left _ _ _ fails); hdr_unchanged = λ _. refl; info_unchanged = λ _. refl; col_start_sb_unchanged = λ _. refl; row_start_sb_unchanged = λ _. refl; hdr_after = λ _ h. never_5 h; info_after = λ _ h. never_5 h; col_start_sb_after = λ _ h. never_5 h; row_start_sb_after = λ _ h. never_5 h; fact = λ h. absurd (h refl) }
 
 pub returns : goal.returns
 unfolding lent_header parse_seq_hdr_into
 returns c =
-    let r = c in
-    let p = r in
-    let k = p in
-    let i = k in
-    let s = i in
-    let a = s.args in
-    let x = r.read_seq_hdr-r.result in
-    let z = parse_seq_hdr a.s.now (place s) (is_set a.strict) in
-    let has : has_room (given s) ≡ true = sym k.has_room.ensures ∙ not-false k.has_room.result k.if-not-has_room.false in
-    let into = rw (p.place_of-p.ensures, r.is_set.ensures) at r.read_seq_hdr-r.ensures in
+    let a = c.args in
+    let x = c.read_seq_hdr-r.result in
+    let z = parse_seq_hdr a.s.now (place c) (is_set a.strict) in
+    let has : has_room (given c) ≡ true = sym c.has_room.ensures ∙ not-false c.has_room.result c.if-not-has_room.false in
+    let into = rw (c.place_of-p.ensures, c.is_set.ensures) at c.read_seq_hdr-r.ensures in
     let read = into.0 ∙ taken _ _ _ has ∙ through _ _ refl in
     let number = c.number.ensures ∙ ap (λ (y : HeaderOutcome × List ℤ × Buffers). number_of y.0.answer) read in
-    let long = le-leb 146 (length a.hdr.now) i.if-hdr-lt146.false in
-    let w = header_read z c.number.result a.hdr.now (given s) number (header_refused a.s.now (place s) (is_set a.strict)) long has
-    (ap (λ (y : HeaderOutcome × List ℤ × Buffers). y.1) read) (ap (λ (y : HeaderOutcome × List ℤ × Buffers). y.2) read) in (
-      triple (row x.answer x.next a.error.now c.number.ensures c.put_place.ensures) refl refl
+    let long = le-leb 146 (length a.hdr.now) c.if-hdr-lt146.false in
+    let w = header_read z c.number.result a.hdr.now (given c) number (header_refused a.s.now (place c) (is_set a.strict)) long has
+    (ap (λ (y : HeaderOutcome × List ℤ × Buffers). y.1) read) (ap (λ (y : HeaderOutcome × List ℤ × Buffers). y.2) read) in
+    record { after_after = triple (row x.answer x.next a.error.now c.number.ensures c.put_place.ensures) refl refl
           ∙ ap (λ (y : HeaderOutcome × List ℤ × Buffers). (answered y.0.answer y.0.next a.error.now, y.1, y.2)) read
-          ∙ sym (taken _ _ _ (both_hold long has) ∙ through _ _ refl),
-      (
-        λ e. absurd (w.not_5 e),
-        (
-          λ e. absurd (w.not_5 e),
-          (
-            λ e. absurd (w.not_5 e),
-            (
-              λ e. absurd (w.not_5 e),
-              (λ e _. w.numbers e, (λ e _. w.bytes e, (λ e _. w.col_starts_lem e, (λ e _. w.row_starts_lem e, λ _. rw c.number.ensures (into.1.1 has))))),
-            ),
-          ),
-        ),
-      ),
-    )
+          ∙ sym (taken _ _ _ (both_hold long has) ∙ through _ _ refl); hdr_unchanged = λ e. absurd (w.not_5 e); info_unchanged = λ e. absurd (w.not_5 e); col_start_sb_unchanged = λ e. absurd (w.not_5 e); row_start_sb_unchanged = λ e. absurd (w.not_5 e); hdr_after = λ e _. w.numbers e; info_after = λ e _. w.bytes e; col_start_sb_after = λ e _. w.col_starts_lem e; row_start_sb_after = λ e _. w.row_starts_lem e; fact = λ _. rw c.number.ensures (into.1.1 has) }
 
 pub shape_of-hdr : goal.shape_of-hdr
 shape_of-hdr c = c.hdr-1.given

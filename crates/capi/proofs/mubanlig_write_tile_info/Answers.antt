@@ -16,19 +16,13 @@ pub returns-then-not-has_room : goal.returns-then-not-has_room
 unfolding lent_write
 returns-then-not-has_room c =
     let lacks = sym c.has_room.ensures ∙ not-true c.has_room.result c.if-not-has_room.true in
-    (sym (left _ _ _ lacks), ((λ _. refl), λ _. refl))
+    record { out_after = sym (left _ _ _ lacks); out_unchanged = (λ _. refl); bits_after = λ _. refl }
 
 pub returns : goal.returns
 unfolding lent_write then
 returns c =
-    let k = c in
-    let t = k in
-    let e = t in
-    let s = e in
-    let has = sym e.has_room.ensures ∙ not-false e.has_room.result e.if-not-has_room.false in
-    let f = s.ranges in
-    let done = rw (t.tile_info_of-t.ensures, to_z-of_z f.sbmul, to_z-of_z f.w, to_z-of_z f.h) at k.write_tile_info-r.ensures.out_after in
-    let refused : (c.number.result ≡ 0 → ⊥) → is_refusal k.write_tile_info-r.result.answer ≡ true = λ h. refused_unless_0 k.write_tile_info-r.result.answer (λ n. h (c.number.ensures ∙ n)) in (
-      rw c.number.ensures (ap (λ (z : Written × List ℕ). (number_of z.0.answer, z.0.bits, z.1)) done ∙ sym (taken _ _ _ has)),
-      ((λ h. (k.write_tile_info-r.ensures.writing.unwritten (refused h)).1), λ h. (k.write_tile_info-r.ensures.writing.unwritten (refused h)).0),
-    )
+    let has = sym c.has_room.ensures ∙ not-false c.has_room.result c.if-not-has_room.false in
+    let f = c.ranges in
+    let done = rw (c.tile_info_of-t.ensures, to_z-of_z f.sbmul, to_z-of_z f.w, to_z-of_z f.h) at c.write_tile_info-r.ensures.out_after in
+    let refused : (c.number.result ≡ 0 → ⊥) → is_refusal c.write_tile_info-r.result.answer ≡ true = λ h. refused_unless_0 c.write_tile_info-r.result.answer (λ n. h (c.number.ensures ∙ n)) in
+    record { out_after = rw c.number.ensures (ap (λ (z : Written × List ℕ). (number_of z.0.answer, z.0.bits, z.1)) done ∙ sym (taken _ _ _ has)); out_unchanged = (λ h. (c.write_tile_info-r.ensures.writing.unwritten (refused h)).1); bits_after = λ h. (c.write_tile_info-r.ensures.writing.unwritten (refused h)).0 }

@@ -12,9 +12,8 @@ overflow_cast-result c = omega (arith, c.shared_slice_known-then-byte-s-1.given 
 
 pub returns-then-byte-s : goal.returns-then-byte-s
 returns-then-byte-s c =
-    let k = c in
-    let a = k.args in
-    bit_on a.s.now a.position.now a.error.now (search rules) refl k.wrapping_add_usize.ensures
+    let a = c.args in
+    bit_on a.s.now a.position.now a.error.now (search rules) refl c.wrapping_add_usize.ensures
 
 pub returns : goal.returns
 unfolding get_bit

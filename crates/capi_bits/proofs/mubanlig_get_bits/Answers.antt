@@ -23,15 +23,12 @@ overflow_cast-width-then-at-s c = rw (to_z-of_z c.ranges.n) (omega (arith, (know
 
 pub returns-then-at-s : goal.returns-then-at-s
 returns-then-at-s c =
-    let t = c in
-    let start = t in
-    let a = start.args in
-    let same = to_z-of_z start.ranges.n in
-    bits_on a.s.now a.position.now a.error.now (nat_abs a.n) (omega (arith, (known t).1)) (omega (arith, (known t).1))
+    let a = c.args in
+    let same = to_z-of_z c.ranges.n in
+    bits_on a.s.now a.position.now a.error.now (nat_abs a.n) (omega (arith, (known c).1)) (omega (arith, (known c).1))
     (rw (same, c.place_of.ensures) at c.look_ahead.ensures) (rw same at c.wrapping_add_usize.ensures)
-    ∙ ap (λ (z : ℤ). lent_number (get_bits a.s.now (place_of a.position.now a.error.now) z) a.error.now) (known t).2
+    ∙ ap (λ (z : ℤ). lent_number (get_bits a.s.now (place_of a.position.now a.error.now) z) a.error.now) (known c).2
 
 pub returns : goal.returns
 returns c =
-    let start = c in
-    rw (to_z-of_z start.ranges.n) at c.read_bits.ensures
+    rw (to_z-of_z c.ranges.n) at c.read_bits.ensures

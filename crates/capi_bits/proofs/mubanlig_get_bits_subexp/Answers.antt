@@ -6,6 +6,4 @@ use Rattle.capi_bits.proofs.mubanlig_get_bits_subexp.Goals as goal
 
 pub returns : goal.returns
 returns c =
-    let k = c in
-    let start = k in
-    rw (back c.hand_back_signed.result c.hand_back_signed.type_inv) (c.hand_back_signed.ensures ∙ ap (λ (x : Signed). lent_signed x start.args.error.now) (rw (to_z-of_z start.ranges.ref-val, k.place_of.ensures) at k.get_bits_subexp-r.ensures))
+    rw (back c.hand_back_signed.result c.hand_back_signed.type_inv) (c.hand_back_signed.ensures ∙ ap (λ (x : Signed). lent_signed x c.args.error.now) (rw (to_z-of_z c.ranges.ref_val, c.place_of.ensures) at c.get_bits_subexp-r.ensures))

@@ -5,6 +5,4 @@ use Rattle.capi_bits.proofs.mubanlig_get_bits_subexp_u.Goals as goal
 
 pub returns : goal.returns
 returns c =
-    let k = c in
-    let start = k in
-    c.hand_back.ensures ∙ ap (λ (x : Number). lent_number x start.args.error.now) (rw (to_z-of_z start.ranges.k, k.place_of.ensures) at k.get_bits_subexp_u-r.ensures)
+    c.hand_back.ensures ∙ ap (λ (x : Number). lent_number x c.args.error.now) (rw (to_z-of_z c.ranges.k, c.place_of.ensures) at c.get_bits_subexp_u-r.ensures)

@@ -5,6 +5,4 @@ use Rattle.capi_bits.proofs.mubanlig_get_uleb128.Goals as goal
 
 pub returns : goal.returns
 returns c =
-    let k = c in
-    let start = k in
-    c.hand_back.ensures ∙ ap (λ (x : Number). lent_number x start.args.error.now) (rw k.place_of.ensures at k.get_uleb128-r.ensures)
+    c.hand_back.ensures ∙ ap (λ (x : Number). lent_number x c.args.error.now) (rw c.place_of.ensures at c.get_uleb128-r.ensures)

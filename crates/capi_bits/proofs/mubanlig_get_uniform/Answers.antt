@@ -37,20 +37,16 @@ overflow_sub-l c = omega (arith, bits c, (length_is (max c) (omega (arith, (boun
 
 pub returns-then-w-m : goal.returns-then-w-m
 returns-then-w-m c =
-    let k = c in
-    let a = (start k).args in
-    uniform_short a.s.now a.position.now a.error.now a.max (bounds k).0 (bounds k).1 (omega arith)
-    k.look_ahead-w.result (looked k) (rw (forms k).uniform-forms.ensures.1 at c.if-w-m.true) (rw (bits k) at c.wrapping_add_usize.ensures)
+    let a = (start c).args in
+    uniform_short a.s.now a.position.now a.error.now a.max (bounds c).0 (bounds c).1 (omega arith)
+    c.look_ahead-w.result (looked c) (rw (forms c).uniform-forms.ensures.1 at c.if-w-m.true) (rw (bits c) at c.wrapping_add_usize.ensures)
 
 pub returns-then-at-s : goal.returns-then-at-s
 returns-then-at-s c =
-    let k = c in
-    let a = (start k).args in
-    rw (forms k).uniform-forms.ensures.1 (uniform_long a.s.now a.position.now a.error.now a.max (bounds k).0 (bounds k).1 (omega arith)
-    k.look_ahead-w.result (looked k) (omega (arith, (forms k).uniform-forms.ensures.1)) (rw (bits k) at c.wrapping_add_usize-then-at-s.ensures))
+    let a = (start c).args in
+    rw (forms c).uniform-forms.ensures.1 (uniform_long a.s.now a.position.now a.error.now a.max (bounds c).0 (bounds c).1 (omega arith)
+    c.look_ahead-w.result (looked c) (omega (arith, (forms c).uniform-forms.ensures.1)) (rw (bits c) at c.wrapping_add_usize-then-at-s.ensures))
 
 pub returns : goal.returns
 returns c =
-    let k = c in
-    let start = k in
-    c.hand_back.ensures ∙ ap (λ (x : Number). lent_number x start.args.error.now) (rw k.place_of-2.ensures at k.get_uniform-r.ensures)
+    c.hand_back.ensures ∙ ap (λ (x : Number). lent_number x c.args.error.now) (rw c.place_of-2.ensures at c.get_uniform-r.ensures)

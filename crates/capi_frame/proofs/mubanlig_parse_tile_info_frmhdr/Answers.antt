@@ -39,77 +39,43 @@ known-type s = is_known s.args.frame-type s.args.present
 
 pub returns-then-not-has_room : goal.returns-then-not-has_room
 returns-then-not-has_room c =
-    let i = c in
-    let s = i in
-    let a = s.args in
-    let lacks = sym i.has_room.ensures ∙ not-true i.has_room.result i.if-not-has_room.true in
-    let fails = first_fails _ (has_room (theirs s)) lacks in
-    (frames_short a.s.now a.position.now a.error.now c.settle_place.ensures _ a.sb128.now (own s) (theirs s) (known-type s) fails, (λ _. refl, (λ _. refl, (λ _. refl, (λ _. refl, (λ h _. contrary h fails, λ h. contrary refl (accepted_by_0 ShortBuffer h)))))))
+    let a = c.args in
+    let lacks = sym c.has_room.ensures ∙ not-true c.has_room.result c.if-not-has_room.true in
+    let fails = first_fails _ (has_room (theirs c)) lacks in
+    record { after_after = frames_short a.s.now a.position.now a.error.now c.settle_place.ensures _ a.sb128.now (own c) (theirs c) (known-type c) fails; sb128_unchanged = λ _. refl; info_unchanged = λ _. refl; col_start_sb_unchanged = λ _. refl; row_start_sb_unchanged = λ _. refl; fact = λ h _. contrary h fails; cleared = λ h. contrary refl (accepted_by_0 ShortBuffer h) }
 
 pub returns-then-not-has_room-2 : goal.returns-then-not-has_room-2
 returns-then-not-has_room-2 c =
-    let i = c in
-    let s = i in
-    let a = s.args in
-    let lacks = sym i.has_room-2.ensures ∙ not-true i.has_room-2.result i.if-not-has_room-2.true in
-    let fails = second_fails (has_room (own s)) _ lacks in
-    (frames_short a.s.now a.position.now a.error.now c.settle_place-then-not-has_room-2.ensures _ a.sb128.now (own s) (theirs s) (known-type s) fails, (λ _. refl, (λ _. refl, (λ _. refl, (λ _. refl, (λ h _. contrary h fails, λ h. contrary refl (accepted_by_0 ShortBuffer h)))))))
+    let a = c.args in
+    let lacks = sym c.has_room-2.ensures ∙ not-true c.has_room-2.result c.if-not-has_room-2.true in
+    let fails = second_fails (has_room (own c)) _ lacks in
+    record { after_after = frames_short a.s.now a.position.now a.error.now c.settle_place-then-not-has_room-2.ensures _ a.sb128.now (own c) (theirs c) (known-type c) fails; sb128_unchanged = λ _. refl; info_unchanged = λ _. refl; col_start_sb_unchanged = λ _. refl; row_start_sb_unchanged = λ _. refl; fact = λ h _. contrary h fails; cleared = λ h. contrary refl (accepted_by_0 ShortBuffer h) }
 
 pub returns-then-not-is_known : goal.returns-then-not-is_known
 unfolding lent_frames
 returns-then-not-is_known c =
-    let roomy : has_room (own c) && has_room (theirs c) ≡ true = let e = c in
-    both_hold (sym e.has_room.ensures ∙ not-false e.has_room.result e.if-not-has_room.false)
+    let roomy : has_room (own c) && has_room (theirs c) ≡ true = both_hold (sym c.has_room.ensures ∙ not-false c.has_room.result c.if-not-has_room.false)
     (sym c.has_room-2.ensures ∙ not-false c.has_room-2.result c.if-not-has_room-2.false) in
-    let b = c in
-    let i = b in
-    let k = i in
-    let s = k in
-    let unknown = sym i.is_Known.ensures ∙ not-true i.is_Known.result b.if-not-is_known.true in (
-      triple (row WrongArguments (settled s.args.s.now (place s)) s.args.error.now refl c.settle_place-then-not-is_known.ensures) refl refl ∙ sym (taken _ _ _ (roomy) ∙ left _ _ _ unknown),
-      (λ _. refl, (λ _. refl, (λ _. refl, (λ _. refl, (λ _ h. contrary h unknown, λ h. contrary refl (accepted_by_0 WrongArguments h)))))),
-    )
+    let unknown = sym c.is_Known.ensures ∙ not-true c.is_Known.result c.if-not-is_known.true in
+    record { after_after = triple (row WrongArguments (settled c.args.s.now (place c)) c.args.error.now refl c.settle_place-then-not-is_known.ensures) refl refl ∙ sym (taken _ _ _ (roomy) ∙ left _ _ _ unknown); sb128_unchanged = λ _. refl; info_unchanged = λ _. refl; col_start_sb_unchanged = λ _. refl; row_start_sb_unchanged = λ _. refl; fact = λ _ h. contrary h unknown; cleared = λ h. contrary refl (accepted_by_0 WrongArguments h) }
 
 pub returns : goal.returns
 unfolding lent_frames
 returns c =
-    let roomy : has_room (own c) && has_room (theirs c) ≡ true = let e = c in
-    both_hold (sym e.has_room.ensures ∙ not-false e.has_room.result e.if-not-has_room.false)
+    let roomy : has_room (own c) && has_room (theirs c) ≡ true = both_hold (sym c.has_room.ensures ∙ not-false c.has_room.result c.if-not-has_room.false)
     (sym c.has_room-2.ensures ∙ not-false c.has_room-2.result c.if-not-has_room-2.false) in
-    let k = c in
-    let n = k in
-    let o = n in
-    let p = o in
-    let e = p in
-    let g = e in
-    let x = g in
-    let s = x in
-    let a = s.args in
-    let f = s.ranges in
-    let b = own s in
-    let h = header s in
-    let q = sequence s in
+    let a = c.args in
+    let f = c.ranges in
+    let b = own c in
+    let h = header c in
+    let q = sequence c in
     let has = roomy in
-    let known = sym g.is_Known.ensures ∙ not-false g.is_Known.result e.if-not-is_known.false in
-    let sized = rw (to_z-of_z f.width, to_z-of_z f.height, to_z-of_z f.max-width, to_z-of_z f.max-height) at k.frame_layout_into-r.ensures.after_after in
-    let into = rw (p.place_of-p.ensures, o.frame_type_of.ensures, n.present_of.ensures) at sized in
-    let promised-sized = rw (to_z-of_z f.width, to_z-of_z f.height, to_z-of_z f.max-width, to_z-of_z f.max-height) at (k.frame_layout_into-r.ensures.fact.1 has) in
-    let promised = rw (p.place_of-p.ensures, o.frame_type_of.ensures, n.present_of.ensures) at promised-sized in
-    let z = parse_tile_info_frmhdr a.s.now (place s) h q in
-    let back = frame-into-handed a.s.now (place s) h q b (theirs s) has into a.error.now c.number.ensures c.put_place.ensures in
-    let kept = frame_kept z a.error.now a.sb128.now b back in (
-      back ∙ sym (taken _ _ _ has ∙ taken _ _ _ known ∙ through _ _ refl),
-      (
-        code_kept z a.error.now a.sb128.now b back,
-        (
-          λ n. ap (λ (b : Buffers). b.bytes) (kept n),
-          (
-            λ n. ap (λ (b : Buffers). b.col_starts_lem) (kept n),
-            (
-              λ n. ap (λ (b : Buffers). b.row_starts_lem) (kept n),
-              (λ _ _ d f. demand3_left _ _ _ c.number.ensures (λ _. refl) (promised.fresh d f), λ n. promised.over.cleared (accepted_by_0 k.frame_layout_into-r.result.answer (sym c.number.ensures ∙ n))),
-            ),
-          ),
-        ),
-      ),
-    )
+    let known = sym c.is_Known.ensures ∙ not-false c.is_Known.result c.if-not-is_known.false in
+    let sized = rw (to_z-of_z f.width, to_z-of_z f.height, to_z-of_z f.max-width, to_z-of_z f.max-height) at c.frame_layout_into-r.ensures.after_after in
+    let into = rw (c.place_of-p.ensures, c.frame_type_of.ensures, c.present_of.ensures) at sized in
+    let promised-sized = rw (to_z-of_z f.width, to_z-of_z f.height, to_z-of_z f.max-width, to_z-of_z f.max-height) at (c.frame_layout_into-r.ensures.fact.1 has) in
+    let promised = rw (c.place_of-p.ensures, c.frame_type_of.ensures, c.present_of.ensures) at promised-sized in
+    let z = parse_tile_info_frmhdr a.s.now (place c) h q in
+    let back = frame-into-handed a.s.now (place c) h q b (theirs c) has into a.error.now c.number.ensures c.put_place.ensures in
+    let kept = frame_kept z a.error.now a.sb128.now b back in
+    record { after_after = back ∙ sym (taken _ _ _ has ∙ taken _ _ _ known ∙ through _ _ refl); sb128_unchanged = code_kept z a.error.now a.sb128.now b back; info_unchanged = λ c. ap (λ (b : Buffers). b.bytes) (kept c); col_start_sb_unchanged = λ c. ap (λ (b : Buffers). b.col_starts_lem) (kept c); row_start_sb_unchanged = λ c. ap (λ (b : Buffers). b.row_starts_lem) (kept c); fact = λ _ _ d f. demand3_left _ _ _ c.number.ensures (λ _. refl) (promised.fresh d f); cleared = λ c. promised.over.cleared (accepted_by_0 c.frame_layout_into-r.result.answer (sym c.number.ensures ∙ c)) }

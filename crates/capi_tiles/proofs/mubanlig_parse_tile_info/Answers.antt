@@ -21,25 +21,11 @@ asked s = args_of s.args.sbmul s.args.sb128 s.args.seq-sb128 s.args.w s.args.h s
 
 pub returns : goal.returns
 returns c =
-    let k = c in
-    let p = k in
-    let s = p in
-    let a = s.args in
-    let f = s.ranges in
-    let b = given s in
-    let into = rw (to_z-of_z f.sbmul, to_z-of_z f.w, to_z-of_z f.h, p.place_of-p.ensures) at k.parse_tile_info_into-r.ensures in
+    let a = c.args in
+    let f = c.ranges in
+    let b = given c in
+    let into = rw (to_z-of_z f.sbmul, to_z-of_z f.w, to_z-of_z f.h, c.place_of-p.ensures) at c.parse_tile_info_into-r.ensures in
     let number = c.number.ensures in
-    let back = into_handed a.s.now a.position.now a.error.now (asked s) b into.0 number c.put_place.ensures in
-    let kept = lent_kept _ a.s.now a.position.now a.error.now b back in (
-      back,
-      (
-        λ n. ap (λ (b : Buffers). b.bytes) (kept n),
-        (
-          λ n. ap (λ (b : Buffers). b.col_starts_lem) (kept n),
-          (
-            λ n. ap (λ (b : Buffers). b.row_starts_lem) (kept n),
-            (λ has d. demand3_left _ _ _ number (λ _. refl) (into.1.1.0 has d), λ n. into.1.1.1.cleared (accepted_by_0 k.parse_tile_info_into-r.result.answer (sym number ∙ n))),
-          ),
-        ),
-      ),
-    )
+    let back = into_handed a.s.now a.position.now a.error.now (asked c) b into.0 number c.put_place.ensures in
+    let kept = lent_kept _ a.s.now a.position.now a.error.now b back in
+    record { after_after = back; info_unchanged = λ n. ap (λ (b : Buffers). b.bytes) (kept n); col_start_sb_unchanged = λ n. ap (λ (b : Buffers). b.col_starts_lem) (kept n); row_start_sb_unchanged = λ n. ap (λ (b : Buffers). b.row_starts_lem) (kept n); fact = λ has d. demand3_left _ _ _ number (λ _. refl) (into.1.1.0 has d); cleared = λ n. into.1.1.1.cleared (accepted_by_0 c.parse_tile_info_into-r.result.answer (sym number ∙ n)) }

@@ -22,18 +22,12 @@ pub returns-then-not-has_room : goal.returns-then-not-has_room
 unfolding lent_rectangles
 returns-then-not-has_room c =
     let lacks = sym c.has_room.ensures ∙ not-true c.has_room.result c.if-not-has_room.true in
-    (sym (left _ _ _ lacks), λ _. refl)
+    record { out_after = sym (left _ _ _ lacks); out_unchanged = λ _. refl }
 
 pub returns : goal.returns
 unfolding lent_rectangles then
 returns c =
-    let k = c in
-    let t = k in
-    let e = t in
-    let s = e in
-    let has = sym e.has_room.ensures ∙ not-false e.has_room.result e.if-not-has_room.false in
-    let done = rw (t.tile_info_of-t.ensures, to_z-of_z s.ranges.w, to_z-of_z s.ranges.h) at k.tile_rectangles.ensures.out_after in (
-      rw c.number.ensures (ap (λ (z : Answer × List ℕ). (number_of z.0, z.1)) done ∙ sym (taken _ _ _ has)),
-      λ h. ap (λ (z : Answer × List ℕ). z.1) done
-          ∙ kept (layout_in (given s)) s.args.sb128 (unsigned s.args.w) (unsigned s.args.h) s.args.out.now (ap (λ (z : Answer × List ℕ). is_refusal z.0) (sym done) ∙ refused_unless_0 k.tile_rectangles.result (λ n. h (c.number.ensures ∙ n))),
-    )
+    let has = sym c.has_room.ensures ∙ not-false c.has_room.result c.if-not-has_room.false in
+    let done = rw (c.tile_info_of-t.ensures, to_z-of_z c.ranges.w, to_z-of_z c.ranges.h) at c.tile_rectangles.ensures.out_after in
+    record { out_after = rw c.number.ensures (ap (λ (z : Answer × List ℕ). (number_of z.0, z.1)) done ∙ sym (taken _ _ _ has)); out_unchanged = λ h. ap (λ (z : Answer × List ℕ). z.1) done
+          ∙ kept (layout_in (given c)) c.args.sb128 (unsigned c.args.w) (unsigned c.args.h) c.args.out.now (ap (λ (z : Answer × List ℕ). is_refusal z.0) (sym done) ∙ refused_unless_0 c.tile_rectangles.result (λ n. h (c.number.ensures ∙ n))) }

@@ -73,73 +73,44 @@ pub returns-then-not-has_room : goal.returns-then-not-has_room
 returns-then-not-has_room c =
     let on_wall : limit c ≡ wall → lent_frame_within c.args.s.now c.args.position.now c.args.error.now (own c) (theirs c) (known-type c) (header c) (sequence c) (limit c) ≡ lent_frame c.args.s.now c.args.position.now c.args.error.now (own c) (theirs c) (known-type c) (header c) (sequence c) = λ e. frames_alike _ _ c.args.s.now c.args.position.now c.args.error.now c.args.sb128.now (own c) (theirs c) (known-type c)
     ((limited_frame c.args.s.now (place c) (header c) (sequence c) (limit c)).as_on_wall e) in
-    let i = c in
-    let s = i in
-    let a = s.args in
-    let lacks = sym i.has_room.ensures ∙ not-true i.has_room.result i.if-not-has_room.true in
-    let fails = first_fails _ (has_room (theirs s)) lacks in
-    let e = frames_short a.s.now a.position.now a.error.now c.settle_place.ensures _ a.sb128.now (own s) (theirs s) (known-type s) fails in
-    (e, (λ _. refl, (λ _. refl, (λ _. refl, (λ _. refl, (λ h _. contrary h fails, (λ h. contrary refl (accepted_by_0 ShortBuffer h), (λ w. e ∙ on_wall w, λ h. contrary refl (accepted_by_0 ShortBuffer h)))))))))
+    let a = c.args in
+    let lacks = sym c.has_room.ensures ∙ not-true c.has_room.result c.if-not-has_room.true in
+    let fails = first_fails _ (has_room (theirs c)) lacks in
+    let e = frames_short a.s.now a.position.now a.error.now c.settle_place.ensures _ a.sb128.now (own c) (theirs c) (known-type c) fails in
+    record { after_after = e; sb128_unchanged = λ _. refl; info_unchanged = λ _. refl; col_start_sb_unchanged = λ _. refl; row_start_sb_unchanged = λ _. refl; fact = λ h _. contrary h fails; fact_2 = λ h. contrary refl (accepted_by_0 ShortBuffer h); fact_3 = λ w. e ∙ on_wall w; cleared = λ h. contrary refl (accepted_by_0 ShortBuffer h) }
 
 pub returns-then-not-has_room-2 : goal.returns-then-not-has_room-2
 returns-then-not-has_room-2 c =
     let on_wall : limit c ≡ wall → lent_frame_within c.args.s.now c.args.position.now c.args.error.now (own c) (theirs c) (known-type c) (header c) (sequence c) (limit c) ≡ lent_frame c.args.s.now c.args.position.now c.args.error.now (own c) (theirs c) (known-type c) (header c) (sequence c) = λ e. frames_alike _ _ c.args.s.now c.args.position.now c.args.error.now c.args.sb128.now (own c) (theirs c) (known-type c)
     ((limited_frame c.args.s.now (place c) (header c) (sequence c) (limit c)).as_on_wall e) in
-    let i = c in
-    let s = i in
-    let a = s.args in
-    let lacks = sym i.has_room-2.ensures ∙ not-true i.has_room-2.result i.if-not-has_room-2.true in
-    let fails = second_fails (has_room (own s)) _ lacks in
-    let e = frames_short a.s.now a.position.now a.error.now c.settle_place-then-not-has_room-2.ensures _ a.sb128.now (own s) (theirs s) (known-type s) fails in
-    (e, (λ _. refl, (λ _. refl, (λ _. refl, (λ _. refl, (λ h _. contrary h fails, (λ h. contrary refl (accepted_by_0 ShortBuffer h), (λ w. e ∙ on_wall w, λ h. contrary refl (accepted_by_0 ShortBuffer h)))))))))
+    let a = c.args in
+    let lacks = sym c.has_room-2.ensures ∙ not-true c.has_room-2.result c.if-not-has_room-2.true in
+    let fails = second_fails (has_room (own c)) _ lacks in
+    let e = frames_short a.s.now a.position.now a.error.now c.settle_place-then-not-has_room-2.ensures _ a.sb128.now (own c) (theirs c) (known-type c) fails in
+    record { after_after = e; sb128_unchanged = λ _. refl; info_unchanged = λ _. refl; col_start_sb_unchanged = λ _. refl; row_start_sb_unchanged = λ _. refl; fact = λ h _. contrary h fails; fact_2 = λ h. contrary refl (accepted_by_0 ShortBuffer h); fact_3 = λ w. e ∙ on_wall w; cleared = λ h. contrary refl (accepted_by_0 ShortBuffer h) }
 
 pub returns-then-not-is_known : goal.returns-then-not-is_known
 unfolding lent_frames
 returns-then-not-is_known c =
     let on_wall : limit c ≡ wall → lent_frame_within c.args.s.now c.args.position.now c.args.error.now (own c) (theirs c) (known-type c) (header c) (sequence c) (limit c) ≡ lent_frame c.args.s.now c.args.position.now c.args.error.now (own c) (theirs c) (known-type c) (header c) (sequence c) = λ e. frames_alike _ _ c.args.s.now c.args.position.now c.args.error.now c.args.sb128.now (own c) (theirs c) (known-type c)
     ((limited_frame c.args.s.now (place c) (header c) (sequence c) (limit c)).as_on_wall e) in
-    let roomy : has_room (own c) && has_room (theirs c) ≡ true = let e = c in
-    both_hold (sym e.has_room.ensures ∙ not-false e.has_room.result e.if-not-has_room.false)
+    let roomy : has_room (own c) && has_room (theirs c) ≡ true = both_hold (sym c.has_room.ensures ∙ not-false c.has_room.result c.if-not-has_room.false)
     (sym c.has_room-2.ensures ∙ not-false c.has_room-2.result c.if-not-has_room-2.false) in
-    let b = c in
-    let i = b in
-    let k = i in
-    let s = k in
-    let unknown = sym i.is_Known.ensures ∙ not-true i.is_Known.result b.if-not-is_known.true in
-    let e = triple (row WrongArguments (settled s.args.s.now (place s)) s.args.error.now refl c.settle_place-then-not-is_known.ensures) refl refl ∙ sym (taken _ _ _ (roomy) ∙ left _ _ _ unknown) in
-    (e, (λ _. refl, (λ _. refl, (λ _. refl, (λ _. refl, (λ _ h. contrary h unknown, (λ h. contrary refl (accepted_by_0 WrongArguments h), (λ w. e ∙ on_wall w, λ h. contrary refl (accepted_by_0 WrongArguments h)))))))))
+    let unknown = sym c.is_Known.ensures ∙ not-true c.is_Known.result c.if-not-is_known.true in
+    let e = triple (row WrongArguments (settled c.args.s.now (place c)) c.args.error.now refl c.settle_place-then-not-is_known.ensures) refl refl ∙ sym (taken _ _ _ (roomy) ∙ left _ _ _ unknown) in
+    record { after_after = e; sb128_unchanged = λ _. refl; info_unchanged = λ _. refl; col_start_sb_unchanged = λ _. refl; row_start_sb_unchanged = λ _. refl; fact = λ _ h. contrary h unknown; fact_2 = λ h. contrary refl (accepted_by_0 WrongArguments h); fact_3 = λ w. e ∙ on_wall w; cleared = λ h. contrary refl (accepted_by_0 WrongArguments h) }
 
 pub returns : goal.returns
 returns c =
     let on_wall : limit c ≡ wall → lent_frame_within c.args.s.now c.args.position.now c.args.error.now (own c) (theirs c) (known-type c) (header c) (sequence c) (limit c) ≡ lent_frame c.args.s.now c.args.position.now c.args.error.now (own c) (theirs c) (known-type c) (header c) (sequence c) = λ e. frames_alike _ _ c.args.s.now c.args.position.now c.args.error.now c.args.sb128.now (own c) (theirs c) (known-type c)
     ((limited_frame c.args.s.now (place c) (header c) (sequence c) (limit c)).as_on_wall e) in
-    let roomy : has_room (own c) && has_room (theirs c) ≡ true = let e = c in
-    both_hold (sym e.has_room.ensures ∙ not-false e.has_room.result e.if-not-has_room.false)
+    let roomy : has_room (own c) && has_room (theirs c) ≡ true = both_hold (sym c.has_room.ensures ∙ not-false c.has_room.result c.if-not-has_room.false)
     (sym c.has_room-2.ensures ∙ not-false c.has_room-2.result c.if-not-has_room-2.false) in
-    let d = c in
-    let k = d in
-    let s = start k in
-    let x = k.frame_layout_within-r.result in
-    let back = d.hand_back_frame.ensures in
+    let s = start c in
+    let x = c.frame_layout_within-r.result in
+    let back = c.hand_back_frame.ensures in
     let number = frame_number x s.args.error.now s.args.sb128.now (own s) back.0 in
     let kept = frame_kept x s.args.error.now s.args.sb128.now (own s) back.0 in
-    let info = back.1 (both (has_room (own s)) (has_room (theirs s)) (room k)).0 in
-    let e = back.0 ∙ sym (meaning k) in (
-      e,
-      (
-        code_kept x s.args.error.now s.args.sb128.now (own s) back.0,
-        (
-          λ n. ap (λ (b : Buffers). b.bytes) (kept n),
-          (
-            λ n. ap (λ (b : Buffers). b.col_starts_lem) (kept n),
-            (
-              λ n. ap (λ (b : Buffers). b.row_starts_lem) (kept n),
-              (
-                λ _ _. limited_left (frame_tiles x) _ _ number info (promised k).limited,
-                (λ n. let h = accepted_by_0 x.answer (sym number ∙ n) in subst (FreshAccepted s.args.s.now (place s) (header s) (sequence s)) (sym (info h)) ((promised k).accepted h), (λ w. e ∙ on_wall s w, cleared_left (frame_tiles x) _ _ number info (promised k).over)),
-              ),
-            ),
-          ),
-        ),
-      ),
-    )
+    let info = back.1 (both (has_room (own s)) (has_room (theirs s)) (room c)).0 in
+    let e = back.0 ∙ sym (meaning c) in
+    record { after_after = e; sb128_unchanged = code_kept x s.args.error.now s.args.sb128.now (own s) back.0; info_unchanged = λ n. ap (λ (b : Buffers). b.bytes) (kept n); col_start_sb_unchanged = λ n. ap (λ (b : Buffers). b.col_starts_lem) (kept n); row_start_sb_unchanged = λ n. ap (λ (b : Buffers). b.row_starts_lem) (kept n); fact = λ _ _. limited_left (frame_tiles x) _ _ number info (promised c).limited; fact_2 = λ n. let h = accepted_by_0 x.answer (sym number ∙ n) in subst (FreshAccepted s.args.s.now (place s) (header s) (sequence s)) (sym (info h)) ((promised c).accepted h); fact_3 = λ w. e ∙ on_wall s w; cleared = cleared_left (frame_tiles x) _ _ number info (promised c).over }

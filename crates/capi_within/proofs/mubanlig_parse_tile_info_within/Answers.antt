@@ -46,8 +46,7 @@ meaning k = taken _ _ _ (has k) ∙ through _ _ (read k)
 
 has : (k : goal.After-slice_known-6-1) → has_room (given (start k)) ≡ true
 has k =
-    let e = k in
-    sym e.has_room.ensures ∙ not-false e.has_room.result e.if-not-has_room.false
+    sym k.has_room.ensures ∙ not-false k.has_room.result k.if-not-has_room.false
 
 read : (k : goal.After-slice_known-6-1) → k.parse_tile_info_within-r.result ≡ parse_tile_info_within (start k).args.s.now (place (start k)) (layout_in (given (start k))) (asked (start k)) (limit (start k))
 read k =
@@ -63,35 +62,17 @@ promised k =
 pub returns-then-not-has_room : goal.returns-then-not-has_room
 returns-then-not-has_room c =
     let on_wall : limit c ≡ wall → lent_tile_info_within c.args.s.now c.args.position.now c.args.error.now (given c) (asked c) (limit c) ≡ lent_tile_info c.args.s.now c.args.position.now c.args.error.now (given c) (asked c) = λ e. tiles_alike _ _ c.args.s.now c.args.position.now c.args.error.now (given c) ((limited_tiles c.args.s.now (place c) (layout_in (given c)) (asked c) (limit c)).as_on_wall e) in
-    let i = c in
-    let s = i in
-    let lacks = sym i.has_room.ensures ∙ not-true i.has_room.result i.if-not-has_room.true in
-    let e = tiles_short s.args.s.now s.args.position.now s.args.error.now c.settle_place.ensures _ (given s) lacks in
-    (e, (λ _. refl, (λ _. refl, (λ _. refl, (λ h. contrary h lacks, (λ h. contrary refl (accepted_by_0 ShortBuffer h), (λ w. e ∙ on_wall w, λ h. contrary refl (accepted_by_0 ShortBuffer h))))))))
+    let lacks = sym c.has_room.ensures ∙ not-true c.has_room.result c.if-not-has_room.true in
+    let e = tiles_short c.args.s.now c.args.position.now c.args.error.now c.settle_place.ensures _ (given c) lacks in
+    record { after_after = e; info_unchanged = λ _. refl; col_start_sb_unchanged = λ _. refl; row_start_sb_unchanged = λ _. refl; fact = λ h. contrary h lacks; fact_2 = λ h. contrary refl (accepted_by_0 ShortBuffer h); fact_3 = λ w. e ∙ on_wall w; cleared = λ h. contrary refl (accepted_by_0 ShortBuffer h) }
 
 pub returns : goal.returns
 returns c =
     let on_wall : limit c ≡ wall → lent_tile_info_within c.args.s.now c.args.position.now c.args.error.now (given c) (asked c) (limit c) ≡ lent_tile_info c.args.s.now c.args.position.now c.args.error.now (given c) (asked c) = λ e. tiles_alike _ _ c.args.s.now c.args.position.now c.args.error.now (given c) ((limited_tiles c.args.s.now (place c) (layout_in (given c)) (asked c) (limit c)).as_on_wall e) in
-    let d = c in
-    let k = d in
-    let s = start k in
-    let x = k.parse_tile_info_within-r.result in
-    let back = d.hand_back_tiles.ensures in
+    let s = start c in
+    let x = c.parse_tile_info_within-r.result in
+    let back = c.hand_back_tiles.ensures in
     let number = tiles_number x s.args.error.now (given s) back.0 in
     let kept = tiles_kept x s.args.error.now (given s) back.0 in
-    let e = back.0 ∙ sym (meaning k) in (
-      e,
-      (
-        λ n. ap (λ (b : Buffers). b.bytes) (kept n),
-        (
-          λ n. ap (λ (b : Buffers). b.col_starts_lem) (kept n),
-          (
-            λ n. ap (λ (b : Buffers). b.row_starts_lem) (kept n),
-            (
-              λ _. limited_left x _ _ number (back.1 (has k)) (promised k).limited,
-              (λ n. let h = accepted_by_0 x.answer (sym number ∙ n) in subst (AcceptedLayout s.args.s.now (place s) (asked s)) (sym (back.1 (has k) h)) ((promised k).accepted h), (λ w. e ∙ on_wall s w, cleared_left x _ _ number (back.1 (has k)) (promised k).over)),
-            ),
-          ),
-        ),
-      ),
-    )
+    let e = back.0 ∙ sym (meaning c) in
+    record { after_after = e; info_unchanged = λ n. ap (λ (b : Buffers). b.bytes) (kept n); col_start_sb_unchanged = λ n. ap (λ (b : Buffers). b.col_starts_lem) (kept n); row_start_sb_unchanged = λ n. ap (λ (b : Buffers). b.row_starts_lem) (kept n); fact = λ _. limited_left x _ _ number (back.1 (has c)) (promised c).limited; fact_2 = λ n. let h = accepted_by_0 x.answer (sym number ∙ n) in subst (AcceptedLayout s.args.s.now (place s) (asked s)) (sym (back.1 (has c) h)) ((promised c).accepted h); fact_3 = λ w. e ∙ on_wall s w; cleared = cleared_left x _ _ number (back.1 (has c)) (promised c).over }

@@ -18,9 +18,8 @@ use Rattle.codes.proofs.get_bits_subexp.Goals as goal
 
 answer_lt : (u : goal.After-next-1) → u.get_bits_subexp_u-r.result.value < 2 ^ 31
 answer_lt u =
-    let c = u in
-    let a = c.args in
-    omega (arith, subexp_u_lt a.s.now a.p (nat_abs c.shifted-x.result) (2 * a.n - 1) (pos 3) (omega (arith, (known c).0)), ap (λ (x : Number). x.value) (called u), (known c).1)
+    let a = u.args in
+    omega (arith, subexp_u_lt a.s.now a.p (nat_abs u.shifted-x.result) (2 * a.n - 1) (pos 3) (omega (arith, (known u).0)), ap (λ (x : Number). x.value) (called u), (known u).1)
 
 pub overflow_cast-x : goal.overflow_cast-x
 overflow_cast-x c =
@@ -44,48 +43,39 @@ difference-requires c =
     let tested : c.subexp_range.result ≡ subexp_range c.args.n c.shifted-x.result = rw (same) at c.subexp_range.ensures in
     let right : subexp_range c.args.n c.shifted-x.result ≡ true = sym (tested) ∙ c.if-subexp_range.true in
     let known : (let n = c.args.n in let x = c.shifted-x.result in (1 ≤ n) × (n ≤ 2 ^ 30) × T (non_neg x) × (nat_abs x < 2 ^ 31)) = range_known c.args.n c.shifted-x.result (right) in
-    let called : (let a = c.args in c.get_bits_subexp_u-r.result ≡ get_bits_subexp_u a.s.now a.p (nat_abs c.shifted-x.result) (2 * a.n - 1) (pos 3)) = let c = c in
-    let a = c.args in
+    let called : (let a = c.args in c.get_bits_subexp_u-r.result ≡ get_bits_subexp_u a.s.now a.p (nat_abs c.shifted-x.result) (2 * a.n - 1) (pos 3)) = let a = c.args in
     let e : a.n + c.less_one-off.result ≡ 2 * a.n - 1 = omega (arith, (known).0, c.less_one-off.ensures) in
     c.get_bits_subexp_u-r.ensures
     ∙ ap (λ (z : ℤ). get_bits_subexp_u a.s.now a.p (nat_abs z) (a.n + c.less_one-off.result) (pos 3)) (same)
     ∙ ap (λ (x : ℕ). get_bits_subexp_u a.s.now a.p (nat_abs c.shifted-x.result) x (pos 3)) e in
-    let t = c in
-    (omega (arith, answer_lt c), omega (arith, (known).1, t.less_one-off.ensures))
+    (omega (arith, answer_lt c), omega (arith, (known).1, c.less_one-off.ensures))
 
 pub returns-then-subexp_range : goal.returns-then-subexp_range
 unfolding get_bits_subexp
 returns-then-subexp_range c =
-    let sum : (let a = c.args in c.shifted-x.result ≡ a.ref_val +ℤ pos (a.n - 1)) = let a = c in
-    rw (to_z-of_z a.ranges.ref-val) at c.shifted-x.ensures ∙ ap (λ (x : ℕ). a.args.ref_val +ℤ pos x) c.less_one-off.ensures in
+    let sum : (let a = c.args in c.shifted-x.result ≡ a.ref_val +ℤ pos (a.n - 1)) = rw (to_z-of_z c.ranges.ref_val) at c.shifted-x.ensures ∙ ap (λ (x : ℕ). c.args.ref_val +ℤ pos x) c.less_one-off.ensures in
     let same : to_z w64 (of_z w64 c.shifted-x.result) ≡ c.shifted-x.result = to_z-of_z {w = w64} (record { sfits = c.shifted-x.type_inv }) in
     let tested : c.subexp_range.result ≡ subexp_range c.args.n c.shifted-x.result = rw (same) at c.subexp_range.ensures in
     let right : subexp_range c.args.n c.shifted-x.result ≡ true = sym (tested) ∙ c.if-subexp_range.true in
     let known : (let n = c.args.n in let x = c.shifted-x.result in (1 ≤ n) × (n ≤ 2 ^ 30) × T (non_neg x) × (nat_abs x < 2 ^ 31)) = range_known c.args.n c.shifted-x.result (right) in
-    let called : (let a = c.args in c.get_bits_subexp_u-r.result ≡ get_bits_subexp_u a.s.now a.p (nat_abs c.shifted-x.result) (2 * a.n - 1) (pos 3)) = let c = c in
-    let a = c.args in
+    let called : (let a = c.args in c.get_bits_subexp_u-r.result ≡ get_bits_subexp_u a.s.now a.p (nat_abs c.shifted-x.result) (2 * a.n - 1) (pos 3)) = let a = c.args in
     let e : a.n + c.less_one-off.result ≡ 2 * a.n - 1 = omega (arith, (known).0, c.less_one-off.ensures) in
     c.get_bits_subexp_u-r.ensures
     ∙ ap (λ (z : ℤ). get_bits_subexp_u a.s.now a.p (nat_abs z) (a.n + c.less_one-off.result) (pos 3)) (same)
     ∙ ap (λ (x : ℕ). get_bits_subexp_u a.s.now a.p (nat_abs c.shifted-x.result) x (pos 3)) e in
-    let u = c in
-    let t = u in
-    let off = t.less_one-off in
+    let off = c.less_one-off in
     sym (through _ _ (sum)
     ∙ taken _ _ _ (right)
     ∙ through _ _ (called)
-    ∙ ap (λ (z : ℤ). record { value = z; next = u.get_bits_subexp_u-r.result.next })
-    (ap (λ (x : ℕ). pos u.get_bits_subexp_u-r.result.value -ℤ pos x) (sym off.ensures) ∙ sym c.difference.ensures ∙ sym (back c.difference.result c.difference.type_inv)))
+    ∙ ap (λ (z : ℤ). record { value = z; next = c.get_bits_subexp_u-r.result.next })
+    (ap (λ (x : ℕ). pos c.get_bits_subexp_u-r.result.value -ℤ pos x) (sym off.ensures) ∙ sym c.difference.ensures ∙ sym (back c.difference.result c.difference.type_inv)))
 
 pub returns : goal.returns
 unfolding get_bits_subexp
 returns c =
-    let sum : (let a = c.args in c.shifted-x.result ≡ a.ref_val +ℤ pos (a.n - 1)) = let a = c in
-    rw (to_z-of_z a.ranges.ref-val) at c.shifted-x.ensures ∙ ap (λ (x : ℕ). a.args.ref_val +ℤ pos x) c.less_one-off.ensures in
+    let sum : (let a = c.args in c.shifted-x.result ≡ a.ref_val +ℤ pos (a.n - 1)) = rw (to_z-of_z c.ranges.ref_val) at c.shifted-x.ensures ∙ ap (λ (x : ℕ). c.args.ref_val +ℤ pos x) c.less_one-off.ensures in
     let same : to_z w64 (of_z w64 c.shifted-x.result) ≡ c.shifted-x.result = to_z-of_z {w = w64} (record { sfits = c.shifted-x.type_inv }) in
     let tested : c.subexp_range.result ≡ subexp_range c.args.n c.shifted-x.result = rw (same) at c.subexp_range.ensures in
-    let r = c in
-    let t = r in
     sym (through _ _ (sum)
-    ∙ left _ _ _ (sym (tested) ∙ r.if-subexp_range.false)
-    ∙ ap (λ (x : Number). record { value = pos 0; next = x.next }) (sym r.refuse-r.ensures))
+    ∙ left _ _ _ (sym (tested) ∙ c.if-subexp_range.false)
+    ∙ ap (λ (x : Number). record { value = pos 0; next = x.next }) (sym c.refuse-r.ensures))

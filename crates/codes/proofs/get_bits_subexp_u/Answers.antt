@@ -24,16 +24,14 @@ overflow_cast-k c =
     let tested : (let a = c.args in c.subexp_args.result ≡ subexp_args a.ref_val a.n a.k) = rw (to_z-of_z c.ranges.k) at c.subexp_args.ensures in
     let right : (let a = c.args in subexp_args a.ref_val a.n a.k ≡ true) = sym (tested) ∙ c.if-subexp_args.true in
     let known : (let a = c.args in T (non_neg a.k) × (nat_abs a.k < 32) × (a.ref_val < a.n) × (a.n < 2 ^ 31)) = let a = c.args in args_known a.ref_val a.n a.k (right) in
-    let a = c in
-    rw (to_z-of_z a.ranges.k) ((known).0, nat_abs_fits a.args.k a.ranges.k)
+    rw (to_z-of_z c.ranges.k) ((known).0, nat_abs_fits c.args.k c.ranges.k)
 
 pub subexp-r-requires : goal.subexp-r-requires
 subexp-r-requires c =
     let tested : (let a = c.args in c.subexp_args.result ≡ subexp_args a.ref_val a.n a.k) = rw (to_z-of_z c.ranges.k) at c.subexp_args.ensures in
     let right : (let a = c.args in subexp_args a.ref_val a.n a.k ≡ true) = sym (tested) ∙ c.if-subexp_args.true in
     let known : (let a = c.args in T (non_neg a.k) × (nat_abs a.k < 32) × (a.ref_val < a.n) × (a.n < 2 ^ 31)) = let a = c.args in args_known a.ref_val a.n a.k (right) in
-    let a = c in
-    rw (to_z-of_z a.ranges.k) ((known).1, omega (arith, (known).2), (known).3)
+    rw (to_z-of_z c.ranges.k) ((known).1, omega (arith, (known).2), (known).3)
 
 pub overflow_mul-ref_val : goal.overflow_mul-ref_val
 overflow_mul-ref_val c =
@@ -47,9 +45,7 @@ inv_recenter-requires c =
     let tested : (let a = c.args in c.subexp_args.result ≡ subexp_args a.ref_val a.n a.k) = rw (to_z-of_z c.ranges.k) at c.subexp_args.ensures in
     let right : (let a = c.args in subexp_args a.ref_val a.n a.k ≡ true) = sym (tested) ∙ c.if-subexp_args.true in
     let known : (let a = c.args in T (non_neg a.k) × (nat_abs a.k < 32) × (a.ref_val < a.n) × (a.n < 2 ^ 31)) = let a = c.args in args_known a.ref_val a.n a.k (right) in
-    let below : c.subexp-r.result.value < c.args.n = let a = c in
-    omega (arith, subexp_lt 33 a.args.s.now a.args.p a.args.n (nat_abs (to_z w32 (of_z w32 a.args.k))) 0 0 (omega (arith, (known).2)), ap (λ (x : Number). x.value) c.subexp-r.ensures) in
-    let k = c in
+    let below : c.subexp-r.result.value < c.args.n = omega (arith, subexp_lt 33 c.args.s.now c.args.p c.args.n (nat_abs (to_z w32 (of_z w32 c.args.k))) 0 0 (omega (arith, (known).2)), ap (λ (x : Number). x.value) c.subexp-r.ensures) in
     omega (arith, (known).2, (known).3, below)
 
 pub returns-then-ref_val-n : goal.returns-then-ref_val-n
@@ -57,20 +53,17 @@ unfolding get_bits_subexp_u
 returns-then-ref_val-n c =
     let tested : (let a = c.args in c.subexp_args.result ≡ subexp_args a.ref_val a.n a.k) = rw (to_z-of_z c.ranges.k) at c.subexp_args.ensures in
     let right : (let a = c.args in subexp_args a.ref_val a.n a.k ≡ true) = sym (tested) ∙ c.if-subexp_args.true in
-    let opened : (let a = c.args in let r = c.subexp-r.result in get_bits_subexp_u a.s.now a.p a.ref_val a.n a.k ≡ record { value = pick (leb (2 * a.ref_val) a.n) (inv_recenter a.ref_val r.value) (a.n - 1 - inv_recenter (a.n - 1 - a.ref_val) r.value); next = r.next }) = let a = c in
-    taken _ _ _ (right) ∙ through _ _ (rw (to_z-of_z a.ranges.k) at c.subexp-r.ensures) in
-    let k = c in
-    let a = k.args in
+    let opened : (let a = c.args in let r = c.subexp-r.result in get_bits_subexp_u a.s.now a.p a.ref_val a.n a.k ≡ record { value = pick (leb (2 * a.ref_val) a.n) (inv_recenter a.ref_val r.value) (a.n - 1 - inv_recenter (a.n - 1 - a.ref_val) r.value); next = r.next }) = taken _ _ _ (right) ∙ through _ _ (rw (to_z-of_z c.ranges.k) at c.subexp-r.ensures) in
+    let a = c.args in
     sym (opened
-    ∙ ap (λ (x : ℕ). record { value = x; next = k.subexp-r.result.next }) (taken _ _ _ (le-leb (2 * a.ref_val) a.n c.if-ref_val-n.true) ∙ sym c.inv_recenter.ensures))
+    ∙ ap (λ (x : ℕ). record { value = x; next = c.subexp-r.result.next }) (taken _ _ _ (le-leb (2 * a.ref_val) a.n c.if-ref_val-n.true) ∙ sym c.inv_recenter.ensures))
 
 pub overflow_sub-result : goal.overflow_sub-result
 overflow_sub-result c =
     let tested : (let a = c.args in c.subexp_args.result ≡ subexp_args a.ref_val a.n a.k) = rw (to_z-of_z c.ranges.k) at c.subexp_args.ensures in
     let right : (let a = c.args in subexp_args a.ref_val a.n a.k ≡ true) = sym (tested) ∙ c.if-subexp_args.true in
     let known : (let a = c.args in T (non_neg a.k) × (nat_abs a.k < 32) × (a.ref_val < a.n) × (a.n < 2 ^ 31)) = let a = c.args in args_known a.ref_val a.n a.k (right) in
-    let below : c.subexp-r.result.value < c.args.n = let a = c in
-    omega (arith, subexp_lt 33 a.args.s.now a.args.p a.args.n (nat_abs (to_z w32 (of_z w32 a.args.k))) 0 0 (omega (arith, (known).2)), ap (λ (x : Number). x.value) c.subexp-r.ensures) in
+    let below : c.subexp-r.result.value < c.args.n = omega (arith, subexp_lt 33 c.args.s.now c.args.p c.args.n (nat_abs (to_z w32 (of_z w32 c.args.k))) 0 0 (omega (arith, (known).2)), ap (λ (x : Number). x.value) c.subexp-r.ensures) in
     omega (arith, below)
 
 pub overflow_sub-n : goal.overflow_sub-n
@@ -78,8 +71,7 @@ overflow_sub-n c =
     let tested : (let a = c.args in c.subexp_args.result ≡ subexp_args a.ref_val a.n a.k) = rw (to_z-of_z c.ranges.k) at c.subexp_args.ensures in
     let right : (let a = c.args in subexp_args a.ref_val a.n a.k ≡ true) = sym (tested) ∙ c.if-subexp_args.true in
     let known : (let a = c.args in T (non_neg a.k) × (nat_abs a.k < 32) × (a.ref_val < a.n) × (a.n < 2 ^ 31)) = let a = c.args in args_known a.ref_val a.n a.k (right) in
-    let below : c.subexp-r.result.value < c.args.n = let a = c in
-    omega (arith, subexp_lt 33 a.args.s.now a.args.p a.args.n (nat_abs (to_z w32 (of_z w32 a.args.k))) 0 0 (omega (arith, (known).2)), ap (λ (x : Number). x.value) c.subexp-r.ensures) in
+    let below : c.subexp-r.result.value < c.args.n = omega (arith, subexp_lt 33 c.args.s.now c.args.p c.args.n (nat_abs (to_z w32 (of_z w32 c.args.k))) 0 0 (omega (arith, (known).2)), ap (λ (x : Number). x.value) c.subexp-r.ensures) in
     omega (arith, below)
 
 pub overflow_sub-n-then-subexp_args : goal.overflow_sub-n-then-subexp_args
@@ -87,7 +79,6 @@ overflow_sub-n-then-subexp_args c =
     let tested : (let a = c.args in c.subexp_args.result ≡ subexp_args a.ref_val a.n a.k) = rw (to_z-of_z c.ranges.k) at c.subexp_args.ensures in
     let right : (let a = c.args in subexp_args a.ref_val a.n a.k ≡ true) = sym (tested) ∙ c.if-subexp_args.true in
     let known : (let a = c.args in T (non_neg a.k) × (nat_abs a.k < 32) × (a.ref_val < a.n) × (a.n < 2 ^ 31)) = let a = c.args in args_known a.ref_val a.n a.k (right) in
-    let k = c in
     omega (arith, (known).2)
 
 pub inv_recenter-requires-then-subexp_args : goal.inv_recenter-requires-then-subexp_args
@@ -95,9 +86,7 @@ inv_recenter-requires-then-subexp_args c =
     let tested : (let a = c.args in c.subexp_args.result ≡ subexp_args a.ref_val a.n a.k) = rw (to_z-of_z c.ranges.k) at c.subexp_args.ensures in
     let right : (let a = c.args in subexp_args a.ref_val a.n a.k ≡ true) = sym (tested) ∙ c.if-subexp_args.true in
     let known : (let a = c.args in T (non_neg a.k) × (nat_abs a.k < 32) × (a.ref_val < a.n) × (a.n < 2 ^ 31)) = let a = c.args in args_known a.ref_val a.n a.k (right) in
-    let below : c.subexp-r.result.value < c.args.n = let a = c in
-    omega (arith, subexp_lt 33 a.args.s.now a.args.p a.args.n (nat_abs (to_z w32 (of_z w32 a.args.k))) 0 0 (omega (arith, (known).2)), ap (λ (x : Number). x.value) c.subexp-r.ensures) in
-    let k = c in
+    let below : c.subexp-r.result.value < c.args.n = omega (arith, subexp_lt 33 c.args.s.now c.args.p c.args.n (nat_abs (to_z w32 (of_z w32 c.args.k))) 0 0 (omega (arith, (known).2)), ap (λ (x : Number). x.value) c.subexp-r.ensures) in
     omega (arith, (known).2, (known).3, below)
 
 pub overflow_sub-result-then-subexp_args : goal.overflow_sub-result-then-subexp_args
@@ -105,11 +94,9 @@ overflow_sub-result-then-subexp_args c =
     let tested : (let a = c.args in c.subexp_args.result ≡ subexp_args a.ref_val a.n a.k) = rw (to_z-of_z c.ranges.k) at c.subexp_args.ensures in
     let right : (let a = c.args in subexp_args a.ref_val a.n a.k ≡ true) = sym (tested) ∙ c.if-subexp_args.true in
     let known : (let a = c.args in T (non_neg a.k) × (nat_abs a.k < 32) × (a.ref_val < a.n) × (a.n < 2 ^ 31)) = let a = c.args in args_known a.ref_val a.n a.k (right) in
-    let below : c.subexp-r.result.value < c.args.n = let a = c in
-    omega (arith, subexp_lt 33 a.args.s.now a.args.p a.args.n (nat_abs (to_z w32 (of_z w32 a.args.k))) 0 0 (omega (arith, (known).2)), ap (λ (x : Number). x.value) c.subexp-r.ensures) in
-    let k = c in
-    let a = k.args in
-    let h = recenter_lt (a.n - 1 - a.ref_val) k.subexp-r.result.value a.n (omega (arith, (known).2, c.if-ref_val-n.false)) (omega (arith, (known).2)) (below) in
+    let below : c.subexp-r.result.value < c.args.n = omega (arith, subexp_lt 33 c.args.s.now c.args.p c.args.n (nat_abs (to_z w32 (of_z w32 c.args.k))) 0 0 (omega (arith, (known).2)), ap (λ (x : Number). x.value) c.subexp-r.ensures) in
+    let a = c.args in
+    let h = recenter_lt (a.n - 1 - a.ref_val) c.subexp-r.result.value a.n (omega (arith, (known).2, c.if-ref_val-n.false)) (omega (arith, (known).2)) (below) in
     omega (arith, h, c.inv_recenter-then-subexp_args.ensures)
 
 pub returns-then-subexp_args : goal.returns-then-subexp_args
@@ -117,12 +104,10 @@ unfolding get_bits_subexp_u
 returns-then-subexp_args c =
     let tested : (let a = c.args in c.subexp_args.result ≡ subexp_args a.ref_val a.n a.k) = rw (to_z-of_z c.ranges.k) at c.subexp_args.ensures in
     let right : (let a = c.args in subexp_args a.ref_val a.n a.k ≡ true) = sym (tested) ∙ c.if-subexp_args.true in
-    let opened : (let a = c.args in let r = c.subexp-r.result in get_bits_subexp_u a.s.now a.p a.ref_val a.n a.k ≡ record { value = pick (leb (2 * a.ref_val) a.n) (inv_recenter a.ref_val r.value) (a.n - 1 - inv_recenter (a.n - 1 - a.ref_val) r.value); next = r.next }) = let a = c in
-    taken _ _ _ (right) ∙ through _ _ (rw (to_z-of_z a.ranges.k) at c.subexp-r.ensures) in
-    let k = c in
-    let a = k.args in
+    let opened : (let a = c.args in let r = c.subexp-r.result in get_bits_subexp_u a.s.now a.p a.ref_val a.n a.k ≡ record { value = pick (leb (2 * a.ref_val) a.n) (inv_recenter a.ref_val r.value) (a.n - 1 - inv_recenter (a.n - 1 - a.ref_val) r.value); next = r.next }) = taken _ _ _ (right) ∙ through _ _ (rw (to_z-of_z c.ranges.k) at c.subexp-r.ensures) in
+    let a = c.args in
     sym (opened
-    ∙ ap (λ (x : ℕ). record { value = x; next = k.subexp-r.result.next }) (left _ _ _ (lt-leb (2 * a.ref_val) a.n c.if-ref_val-n.false) ∙ ap (λ (x : ℕ). a.n - 1 - x) (sym c.inv_recenter-then-subexp_args.ensures)))
+    ∙ ap (λ (x : ℕ). record { value = x; next = c.subexp-r.result.next }) (left _ _ _ (lt-leb (2 * a.ref_val) a.n c.if-ref_val-n.false) ∙ ap (λ (x : ℕ). a.n - 1 - x) (sym c.inv_recenter-then-subexp_args.ensures)))
 
 pub returns : goal.returns
 unfolding get_bits_subexp_u

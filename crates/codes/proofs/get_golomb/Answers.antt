@@ -61,26 +61,22 @@ overflow_add-bits c = omega (arith, ones c)
 pub returns-then-bits-k-eq32 : goal.returns-then-bits-k-eq32
 unfolding get_golomb
 returns-then-bits-k-eq32 c =
-    let r = c in
-    let a = r.args in
-    sym (left _ _ _ (lt-leb 32 a.k (omega arith)) ∙ through _ _ r.run-c.ensures ∙ taken _ _ _ (eq-eqb (r.run-c.result.value + a.k) 32 c.if-bits-k-eq32.true))
+    let a = c.args in
+    sym (left _ _ _ (lt-leb 32 a.k (omega arith)) ∙ through _ _ c.run-c.ensures ∙ taken _ _ _ (eq-eqb (c.run-c.result.value + a.k) 32 c.if-bits-k-eq32.true))
 
 pub overflow_mul-result : goal.overflow_mul-result
 overflow_mul-result c = omega (arith, bounded c)
 
 pub overflow_add-result : goal.overflow_add-result
 overflow_add-result c =
-    let k = c in
-    omega (arith, bounded k, rest_lt k)
+    omega (arith, bounded c, rest_lt c)
 
 pub returns : goal.returns
 unfolding get_golomb
 returns c =
-    let k = c in
-    let r = k in
-    let a = r.args in
-    sym (left _ _ _ (lt-leb 32 a.k (omega (arith, r)))
-    ∙ through _ _ r.run-c.ensures
-    ∙ left _ _ _ (ne_eqb (r.run-c.result.value + a.k) 32 k.if-bits-k-eq32.false)
-    ∙ ap (plus (r.run-c.result.value * 2 ^ a.k)) (sym (rest k))
-    ∙ ap (λ (x : ℕ). plus (r.run-c.result.value * x) k.read_bits-r.result) (sym (twos k)))
+    let a = c.args in
+    sym (left _ _ _ (lt-leb 32 a.k (omega (arith, c)))
+    ∙ through _ _ c.run-c.ensures
+    ∙ left _ _ _ (ne_eqb (c.run-c.result.value + a.k) 32 c.if-bits-k-eq32.false)
+    ∙ ap (plus (c.run-c.result.value * 2 ^ a.k)) (sym (rest c))
+    ∙ ap (λ (x : ℕ). plus (c.run-c.result.value * x) c.read_bits-r.result) (sym (twos c)))

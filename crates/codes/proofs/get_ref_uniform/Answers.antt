@@ -41,8 +41,7 @@ returns-then-b-eq0 c =
     ∙ left _ _ _ (lt-leb (2 ^ 31) a.max (omega arith))
     ∙ through _ _ c.umin-d.ensures
     ∙ through _ _ c.get_bit-b.ensures in
-    let g = c in
-    sym (opened ∙ taken _ _ _ (eq-eqb g.get_bit-b.result.value 0 c.if-b-eq0.true))
+    sym (opened ∙ taken _ _ _ (eq-eqb c.get_bit-b.result.value 0 c.if-b-eq0.true))
 
 pub returns-then-r-d : goal.returns-then-r-d
 unfolding get_ref_uniform
@@ -52,15 +51,12 @@ returns-then-r-d c =
     ∙ left _ _ _ (lt-leb (2 ^ 31) a.max (omega arith))
     ∙ through _ _ c.umin-d.ensures
     ∙ through _ _ c.get_bit-b.ensures in
-    let other : (let a = c.args in let r = c.get_uniform-r.result in get_ref_uniform a.s.now a.p a.max a.def ≡ record { value = pick (ltb r.value (held c)) r.value (r.value + 1); next = r.next }) = let g = c in
-    opened ∙ left _ _ _ (ne_eqb g.get_bit-b.result.value 0 c.if-b-eq0.false) ∙ through _ _ c.get_uniform-r.ensures in
-    let u = c in
-    sym (other ∙ ap (λ (x : ℕ). record { value = x; next = u.get_uniform-r.result.next }) (taken _ _ _ (lt-ltb u.get_uniform-r.result.value (held u) c.if-r-d.true)))
+    let other : (let a = c.args in let r = c.get_uniform-r.result in get_ref_uniform a.s.now a.p a.max a.def ≡ record { value = pick (ltb r.value (held c)) r.value (r.value + 1); next = r.next }) = opened ∙ left _ _ _ (ne_eqb c.get_bit-b.result.value 0 c.if-b-eq0.false) ∙ through _ _ c.get_uniform-r.ensures in
+    sym (other ∙ ap (λ (x : ℕ). record { value = x; next = c.get_uniform-r.result.next }) (taken _ _ _ (lt-ltb c.get_uniform-r.result.value (held c) c.if-r-d.true)))
 
 pub overflow_add-result : goal.overflow_add-result
 overflow_add-result c =
-    let u = c in
-    omega (arith, below u)
+    omega (arith, below c)
 
 pub returns : goal.returns
 unfolding get_ref_uniform
@@ -70,7 +66,5 @@ returns c =
     ∙ left _ _ _ (lt-leb (2 ^ 31) a.max (omega arith))
     ∙ through _ _ c.umin-d.ensures
     ∙ through _ _ c.get_bit-b.ensures in
-    let other : (let a = c.args in let r = c.get_uniform-r.result in get_ref_uniform a.s.now a.p a.max a.def ≡ record { value = pick (ltb r.value (held c)) r.value (r.value + 1); next = r.next }) = let g = c in
-    opened ∙ left _ _ _ (ne_eqb g.get_bit-b.result.value 0 c.if-b-eq0.false) ∙ through _ _ c.get_uniform-r.ensures in
-    let u = c in
-    sym (other ∙ ap (λ (x : ℕ). record { value = x; next = u.get_uniform-r.result.next }) (left _ _ _ (le-ltb u.get_uniform-r.result.value (held u) c.if-r-d.false)))
+    let other : (let a = c.args in let r = c.get_uniform-r.result in get_ref_uniform a.s.now a.p a.max a.def ≡ record { value = pick (ltb r.value (held c)) r.value (r.value + 1); next = r.next }) = opened ∙ left _ _ _ (ne_eqb c.get_bit-b.result.value 0 c.if-b-eq0.false) ∙ through _ _ c.get_uniform-r.ensures in
+    sym (other ∙ ap (λ (x : ℕ). record { value = x; next = c.get_uniform-r.result.next }) (left _ _ _ (le-ltb c.get_uniform-r.result.value (held c) c.if-r-d.false)))

@@ -10,12 +10,10 @@ pub returns-then-r-lt4294967296 : goal.returns-then-r-lt4294967296
 unfolding get_uleb128
 returns-then-r-lt4294967296 c =
     let whole : ◌≡◌ {A = Number} (record { value = c.groups-r.result.value; next = c.groups-r.result.next }) (uleb_from 8 c.args.s.now c.args.p) = rw (c.groups-r.ensures.0, c.groups-r.ensures.1) in
-    let g = c in
-    sym (through _ _ (whole) ∙ taken _ _ _ (lt-ltb g.groups-r.result.value (2 ^ 32) c.if-r-lt4294967296.true))
+    sym (through _ _ (whole) ∙ taken _ _ _ (lt-ltb c.groups-r.result.value (2 ^ 32) c.if-r-lt4294967296.true))
 
 pub returns : goal.returns
 unfolding get_uleb128
 returns c =
     let whole : ◌≡◌ {A = Number} (record { value = c.groups-r.result.value; next = c.groups-r.result.next }) (uleb_from 8 c.args.s.now c.args.p) = rw (c.groups-r.ensures.0, c.groups-r.ensures.1) in
-    let g = c in
-    sym (through _ _ (whole) ∙ left _ _ _ (le-ltb g.groups-r.result.value (2 ^ 32) c.if-r-lt4294967296.false))
+    sym (through _ _ (whole) ∙ left _ _ _ (le-ltb c.groups-r.result.value (2 ^ 32) c.if-r-lt4294967296.false))

@@ -38,11 +38,10 @@ overflow_add-result c = omega (arith, (there c).0, (there c).1, c.uniform_of-u.e
 
 pub returns-then-eight_left : goal.returns-then-eight_left
 returns-then-eight_left c =
-    let u = c in
-    let s = (x u).args.s.now in
-    let p = (x u).args.p in
-    let h = there u in
-    let n = u.uniform_of-u.result.bits in
-    let e = read_at s p p n {v = bits_at s (8 * p.byte + p.used) n} (settled_in s p (omega (arith, h.1)) h.0) (omega (arith, h.0, h.1, u.uniform_of-u.ensures.most)) refl in
-    let next = ap (λ (r : Number). r.next) e ∙ (read u).1 in
-    rw ((read u).0, next) refl
+    let s = (x c).args.s.now in
+    let p = (x c).args.p in
+    let h = there c in
+    let n = c.uniform_of-u.result.bits in
+    let e = read_at s p p n {v = bits_at s (8 * p.byte + p.used) n} (settled_in s p (omega (arith, h.1)) h.0) (omega (arith, h.0, h.1, c.uniform_of-u.ensures.most)) refl in
+    let next = ap (λ (r : Number). r.next) e ∙ (read c).1 in
+    rw ((read c).0, next) refl

@@ -24,20 +24,17 @@ vlc_read s p z r e h f g =
 
 pub overflow_add-result : goal.overflow_add-result
 overflow_add-result c =
-    let k = c in
-    let z = k.run-z.result in
-    let r = as_read k.args.s.now z.next z.value (omega arith) c.read_bits-r.ensures in
-    omega (arith, read_lt k.args.s.now z.next z.value, ap (λ (x : Number). x.value) r, power_below (omega arith) c.power.ensures.0)
+    let z = c.run-z.result in
+    let r = as_read c.args.s.now z.next z.value (omega arith) c.read_bits-r.ensures in
+    omega (arith, read_lt c.args.s.now z.next z.value, ap (λ (x : Number). x.value) r, power_below (omega arith) c.power.ensures.0)
 
 pub returns-then-n_bits-lt32 : goal.returns-then-n_bits-lt32
 returns-then-n_bits-lt32 c =
-    let k = c in
-    let a = k.args in
+    let a = c.args in
     let r = c.read_bits-r in
-    vlc_read a.s.now a.p k.run-z.result r.result k.run-z.ensures (search rules) r.ensures (power_below (search rules) c.power.ensures.0)
+    vlc_read a.s.now a.p c.run-z.result r.result c.run-z.ensures (search rules) r.ensures (power_below (search rules) c.power.ensures.0)
 
 pub returns : goal.returns
 unfolding get_vlc
 returns c =
-    let k = c in
-    sym (through _ _ k.run-z.ensures ∙ left _ _ _ (le-ltb k.run-z.result.value 32 (search rules)))
+    sym (through _ _ c.run-z.ensures ∙ left _ _ _ (le-ltb c.run-z.result.value 32 (search rules)))

@@ -81,11 +81,10 @@ overflow_add-result c = omega (arith, under c (byte c).value (omega arith), fits
 
 pub returns-then-v-lt128 : goal.returns-then-v-lt128
 returns-then-v-lt128 c =
-    let k = c in
-    let l = (loop k).loop in
-    let e : uleb_from l.left (s k) l.q ≡ byte k =
-    ap (λ (n : ℕ). uleb_from n (s k) l.q) (some k) ∙ uleb_last (l.left - 1) (s k) l.q (byte k) k.read_bits-b.ensures c.if-v-lt128.true in (
-      ap (λ (x : ℕ). l.val + x) (mul_comm (byte k).value l.weight ∙ ap (λ (r : Number). l.weight * r.value) (sym e)) ∙ l.inv.2,
+    let l = (loop c).loop in
+    let e : uleb_from l.left (s c) l.q ≡ byte c =
+    ap (λ (n : ℕ). uleb_from n (s c) l.q) (some c) ∙ uleb_last (l.left - 1) (s c) l.q (byte c) c.read_bits-b.ensures c.if-v-lt128.true in (
+      ap (λ (x : ℕ). l.val + x) (mul_comm (byte c).value l.weight ∙ ap (λ (r : Number). l.weight * r.value) (sym e)) ∙ l.inv.2,
       ap (λ (r : Number). r.next) (sym e) ∙ l.inv.3,
     )
 
@@ -103,14 +102,13 @@ loop-left-smaller c = omega arith
 
 pub loop-left-preserved : goal.loop-left-preserved
 loop-left-preserved c =
-    let k = c in
-    let l = (loop k).loop in
-    let rest : Number = uleb_from (l.left - 1) (s k) (byte k).next in
-    let e : uleb_from l.left (s k) l.q ≡ record { value = (byte k).value - 128 + 128 * rest.value; next = rest.next } =
-    ap (λ (n : ℕ). uleb_from n (s k) l.q) (some k) ∙ uleb_more (l.left - 1) (s k) l.q (byte k) k.read_bits-b.ensures c.if-v-lt128.false in (
-      under k ((byte k).value - 128) (omega (arith, byte_small k)),
-      heavier l.weight (l.left - 1) (weighs k),
-      spread l.val ((byte k).value - 128) l.weight rest.value ∙ ap (λ (r : Number). l.val + l.weight * r.value) (sym e) ∙ l.inv.2,
+    let l = (loop c).loop in
+    let rest : Number = uleb_from (l.left - 1) (s c) (byte c).next in
+    let e : uleb_from l.left (s c) l.q ≡ record { value = (byte c).value - 128 + 128 * rest.value; next = rest.next } =
+    ap (λ (n : ℕ). uleb_from n (s c) l.q) (some c) ∙ uleb_more (l.left - 1) (s c) l.q (byte c) c.read_bits-b.ensures c.if-v-lt128.false in (
+      under c ((byte c).value - 128) (omega (arith, byte_small c)),
+      heavier l.weight (l.left - 1) (weighs c),
+      spread l.val ((byte c).value - 128) l.weight rest.value ∙ ap (λ (r : Number). l.val + l.weight * r.value) (sym e) ∙ l.inv.2,
       ap (λ (r : Number). r.next) (sym e) ∙ l.inv.3,
     )
 

@@ -13,11 +13,8 @@ returns-then-most-eq0 c = rw c.if-most-eq0.true
 
 pub returns : goal.returns
 returns c =
-    let u = c in
-    let z = u in
-    let k = z in
-    let a = k.args in
-    let n = u.umin-n.result in
-    run_word a.bit a.most a.s.now a.p (omega arith) (omega arith) (omega arith) k.look-w.ensures
-    (u.umin-n.ensures ∙ ap (λ (x : ℕ). min (count_leading_zeros 32 x) a.most) z.as_zeros.ensures)
+    let a = c.args in
+    let n = c.umin-n.result in
+    run_word a.bit a.most a.s.now a.p (omega arith) (omega arith) (omega arith) c.look-w.ensures
+    (c.umin-n.ensures ∙ ap (λ (x : ℕ). min (count_leading_zeros 32 x) a.most) c.as_zeros.ensures)
     (as_read a.s.now a.p (min (n + 1) a.most) (omega arith) (rw c.umin.ensures at c.read_wide-r.ensures))

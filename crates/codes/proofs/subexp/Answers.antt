@@ -90,38 +90,28 @@ loop-v-init c = (search rules, search rules, search rules, refl)
 
 pub overflow_add-result : goal.overflow_add-result
 overflow_add-result c =
-    let u = c in
-    let k = u in
-    omega (arith, within k u.get_uniform-r.result (rest k u.get_uniform-r.result u.get_uniform-r.ensures u.if-n-v.true))
+    omega (arith, within c c.get_uniform-r.result (rest c c.get_uniform-r.result c.get_uniform-r.ensures c.if-n-v.true))
 
 pub returns-then-n-v : goal.returns-then-n-v
 returns-then-n-v c =
-    let u = c in
-    rest u u.get_uniform-r.result u.get_uniform-r.ensures u.if-n-v.true
+    rest c c.get_uniform-r.result c.get_uniform-r.ensures c.if-n-v.true
 
 pub overflow_add-result-then-g-eq0 : goal.overflow_add-result-then-g-eq0
 overflow_add-result-then-g-eq0 c =
-    let u = c in
-    let g = u in
-    let k = g in
-    omega (arith, within k u.read_bits-r.result (here k g.get_bit-g.result g.get_bit-g.ensures g.if-n-v.false u.if-g-eq0.true u.read_bits-r.result u.read_bits-r.ensures))
+    omega (arith, within c c.read_bits-r.result (here c c.get_bit-g.result c.get_bit-g.ensures c.if-n-v.false c.if-g-eq0.true c.read_bits-r.result c.read_bits-r.ensures))
 
 pub returns-then-g-eq0 : goal.returns-then-g-eq0
 returns-then-g-eq0 c =
-    let u = c in
-    let g = u in
-    here g g.get_bit-g.result g.get_bit-g.ensures g.if-n-v.false u.if-g-eq0.true u.read_bits-r.result u.read_bits-r.ensures
+    here c c.get_bit-g.result c.get_bit-g.ensures c.if-n-v.false c.if-g-eq0.true c.read_bits-r.result c.read_bits-r.ensures
 
 pub loop-v-smaller : goal.loop-v-smaller
 loop-v-smaller c = omega arith
 
 pub loop-v-preserved : goal.loop-v-preserved
 loop-v-preserved c =
-    let g = c in
-    let k = g in
-    let small = more k g.get_bit-g.result g.get_bit-g.ensures g.if-n-v.false in (
-      omega (arith, small, k.step_bits-b.ensures),
-      omega (arith, small, k.step_bits-b.ensures),
+    let small = more c c.get_bit-g.result c.get_bit-g.ensures c.if-n-v.false in (
+      omega (arith, small, c.step_bits-b.ensures),
+      omega (arith, small, c.step_bits-b.ensures),
       omega arith,
-      on k g.get_bit-g.result g.get_bit-g.ensures g.if-n-v.false c.if-g-eq0.false,
+      on c c.get_bit-g.result c.get_bit-g.ensures c.if-n-v.false c.if-g-eq0.false,
     )

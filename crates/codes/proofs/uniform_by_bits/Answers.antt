@@ -73,26 +73,20 @@ overflow_sub-l c = (forms c).0
 
 pub returns-then-v-m : goal.returns-then-v-m
 returns-then-v-m c =
-    let k = c in
-    short k k.read_bits-r.result k.read_bits-r.ensures (search rules)
+    short c c.read_bits-r.result c.read_bits-r.ensures (search rules)
 
 pub overflow_mul-result : goal.overflow_mul-result
 overflow_mul-result c =
-    let k = c in
-    let a = k in
-    let v = value_lt a k.read_bits-r.result k.read_bits-r.ensures in
-    omega (arith, v.0, v.1, a)
+    let v = value_lt c c.read_bits-r.result c.read_bits-r.ensures in
+    omega (arith, v.0, v.1, c)
 
 pub overflow_add-result : goal.overflow_add-result
 overflow_add-result c =
-    let k = c in
-    let a = k in
     let b = c.get_bit-b in
-    let v = value_lt a k.read_bits-r.result k.read_bits-r.ensures in
-    omega (arith, v.0, v.1, bit_lt (s a) k.read_bits-r.result.next, ap (λ (x : Number). x.value) b.ensures, a)
+    let v = value_lt c c.read_bits-r.result c.read_bits-r.ensures in
+    omega (arith, v.0, v.1, bit_lt (s c) c.read_bits-r.result.next, ap (λ (x : Number). x.value) b.ensures, c)
 
 pub returns : goal.returns
 returns c =
-    let k = c in
     let b = c.get_bit-b in
-    long k k.read_bits-r.result k.read_bits-r.ensures b.result b.ensures (search rules)
+    long c c.read_bits-r.result c.read_bits-r.ensures b.result b.ensures (search rules)

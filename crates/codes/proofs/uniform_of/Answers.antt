@@ -85,45 +85,39 @@ overflow_cast-w-3 c = record { fits = lt_of_le_of_lt (div-le_self c.args.word (2
 
 pub returns-then-w-f : goal.returns-then-w-f
 returns-then-w-f c =
-    let f = c in
-    let a = f.args in
-    let e = f.uniform_forms-f.ensures in
-    let l = f.uniform_forms-f.result.bits in (
-      λ s p looked there some low.
+    let a = c.args in
+    let e = c.uniform_forms-f.ensures in
+    let l = c.uniform_forms-f.result.bits in
+    record { reads = λ s p looked there some low.
           ⊎_elim
           (λ none.
           let z : a.max ≡ 1 = omega arith in
           let b : l ≡ 1 = e.0 ∙ ap bit_length z ∙ one_bit in
-          let m : f.uniform_forms-f.result.short ≡ 1 = e.1 ∙ ap (λ (n : ℕ). 2 ^ bit_length n - n) z ∙ ap (λ (n : ℕ). 2 ^ n - 1) one_bit in
+          let m : c.uniform_forms-f.result.short ≡ 1 = e.1 ∙ ap (λ (n : ℕ). 2 ^ bit_length n - n) z ∙ ap (λ (n : ℕ). 2 ^ n - 1) one_bit in
           let r = one s p a.max (omega arith) in
           let v : a.word / 2 ^ (32 - l) / 2 ≡ 0 = omega (arith, m, c.if-w-f.true) in
           let u : c.less_one.result ≡ 0 = omega (arith, c.less_one.ensures, b) in
           (v ∙ r.0, ap (λ (n : ℕ). (read_bits s p n).next) u ∙ r.1))
           (λ more.
-          let r = short s p a.word a.max l f.uniform_forms-f.result.short e.0 e.1 looked there more low c.if-w-f.true in
+          let r = short s p a.word a.max l c.uniform_forms-f.result.short e.0 e.1 looked there more low c.if-w-f.true in
           (r.0, ap (λ (n : ℕ). (read_bits s p n).next) c.less_one.ensures ∙ r.1))
-          (lt_or_le a.max 2),
-      omega (arith, c.less_one.ensures, e.0),
-    )
+          (lt_or_le a.max 2); most = omega (arith, c.less_one.ensures, e.0) }
 
 pub overflow_sub-result : goal.overflow_sub-result
 overflow_sub-result c = omega (arith, c.if-w-f.false)
 
 pub returns : goal.returns
 returns c =
-    let f = c in
-    let a = f.args in
-    let e = f.uniform_forms-f.ensures in
-    let l = f.uniform_forms-f.result.bits in (
-      λ s p looked there some low.
+    let a = c.args in
+    let e = c.uniform_forms-f.ensures in
+    let l = c.uniform_forms-f.result.bits in
+    record { reads = λ s p looked there some low.
           ⊎_elim
           (λ none.
           let z : a.max ≡ 1 = omega arith in
           let b : l ≡ 1 = e.0 ∙ ap bit_length z ∙ one_bit in
-          let m : f.uniform_forms-f.result.short ≡ 1 = e.1 ∙ ap (λ (n : ℕ). 2 ^ bit_length n - n) z ∙ ap (λ (n : ℕ). 2 ^ n - 1) one_bit in
-          let v : a.word / 2 ^ (32 - l) < 2 = rw b (omega (arith, f.ranges.word.fits)) in
+          let m : c.uniform_forms-f.result.short ≡ 1 = e.1 ∙ ap (λ (n : ℕ). 2 ^ bit_length n - n) z ∙ ap (λ (n : ℕ). 2 ^ n - 1) one_bit in
+          let v : a.word / 2 ^ (32 - l) < 2 = rw b (omega (arith, c.ranges.word.fits)) in
           absurd (omega (arith, m, v, c.if-w-f.false)))
-          (λ more. long s p a.word a.max l f.uniform_forms-f.result.short e.0 e.1 looked there more low c.if-w-f.false)
-          (lt_or_le a.max 2),
-      omega (arith, e.0),
-    )
+          (λ more. long s p a.word a.max l c.uniform_forms-f.result.short e.0 e.1 looked there more low c.if-w-f.false)
+          (lt_or_le a.max 2); most = omega (arith, e.0) }

@@ -14,4 +14,4 @@ pub returns : goal.returns
 unfolding arguments_text word
 returns c =
     rw (le-ltb (length c.args.s.now) 8 c.if-s-lt8.false)
-    (rw (c.u8_to_u64.ensures, c.u8_to_u64-2.ensures, c.u8_to_u64-3.ensures, c.u8_to_u64-4.ensures, c.byte_at_lem.ensures, c.byte_at-2.ensures, c.byte_at-3.ensures, c.byte_at-4.ensures, c.two_at.ensures.0, c.two_at-2.ensures.0) at c.put_marked.ensures)
+    (rw (c.u8_to_u64.ensures, c.u8_to_u64-2.ensures, c.u8_to_u64-3.ensures, c.u8_to_u64-4.ensures, c.byte_at.ensures, c.byte_at-2.ensures, c.byte_at-3.ensures, c.byte_at-4.ensures, c.two_at.ensures.0, c.two_at-2.ensures.0) at c.put_marked.ensures)

@@ -36,5 +36,5 @@ returns c =
     let title = stands (omega (arith, room)) p in
     let w = c.samples-w in
     let h = c.samples-h in
-    rw (← c.tile_request-r.ensures, ← c.is_refusal.ensures, c.if-is_refusal.false, ← c.byte_at_lem.ensures, ← title.1)
+    rw (← c.tile_request-r.ensures, ← c.is_refusal.ensures, c.if-is_refusal.false, ← c.byte_at.ensures, ← title.1)
     (within (omega (arith, title.0, kept p)) (rw (back w.result w.type_inv, back h.result h.type_inv, w.ensures, h.ensures) at c.put_drawing.ensures))

@@ -14,15 +14,13 @@ loop-i-init c = (search rules, none _ _)
 
 pub loop-i-preserved : goal.loop-i-preserved
 loop-i-preserved c =
-    let l = c in
     let a = c.args in
-    (search rules, rw (← each_more (λ k. lines_text a.v a.side k) l.loop-i.i) (within (omega arith) (also l.loop-i.invariant.1 c.put_lines-next.ensures)))
+    (search rules, rw (← each_more (λ k. lines_text a.v a.side k) c.loop-i.i) (within (omega arith) (also c.loop-i.invariant.1 c.put_lines-next.ensures)))
 
 pub shape_of-out : goal.shape_of-out
 shape_of-out c = kept c.loop-i.invariant.1
 
 pub returns : goal.returns
 returns c =
-    let l = c in
-    let e : l.loop-i.i ≡ 63 = omega arith in
-    rw (← e) (within (omega arith) l.loop-i.invariant.1)
+    let e : c.loop-i.i ≡ 63 = omega arith in
+    rw (← e) (within (omega arith) c.loop-i.invariant.1)

@@ -28,11 +28,10 @@ put_above-next-requires c = c.requires.0.unit
 
 pub loop-i-preserved : goal.loop-i-preserved
 loop-i-preserved c =
-    let l = c in
     let a = c.args in (
       search rules,
-      rw (← each_more (λ k. above_text a.v.unit (column_of a.v k (take 4 (drop (4 * k) a.xs.now))) (get_or a.starts.now k 0)) l.loop-i.i)
-          (within (omega arith) (also l.loop-i.invariant.1 (rw (c.start_at_lem.ensures, c.column.ensures.0, c.rect_at.ensures) at c.put_above-next.ensures))),
+      rw (← each_more (λ k. above_text a.v.unit (column_of a.v k (take 4 (drop (4 * k) a.xs.now))) (get_or a.starts.now k 0)) c.loop-i.i)
+          (within (omega arith) (also c.loop-i.invariant.1 (rw (c.start_at.ensures, c.column.ensures.0, c.rect_at.ensures) at c.put_above-next.ensures))),
     )
 
 pub shape_of-out : goal.shape_of-out
@@ -40,6 +39,5 @@ shape_of-out c = kept c.loop-i.invariant.1
 
 pub returns : goal.returns
 returns c =
-    let l = c in
-    let e : l.loop-i.i ≡ c.args.cols = omega arith in
-    rw (← e) (within (omega (arith, c.requires.1)) l.loop-i.invariant.1)
+    let e : c.loop-i.i ≡ c.args.cols = omega arith in
+    rw (← e) (within (omega (arith, c.requires.1)) c.loop-i.invariant.1)

@@ -18,4 +18,4 @@ returns c =
     let a = c.args in
     let first = each_same (λ i. above_text a.v.unit (column_of a.v i (take 4 (drop (4 * (0 * a.cols + i)) a.xs.now))) (get_or a.starts.now i 0)) _ a.cols
     (λ i _. let e : 0 * a.cols + i ≡ i = omega arith in ap (λ (k : ℕ). above_text a.v.unit (column_of a.v i (take 4 (drop (4 * k) a.xs.now))) (get_or a.starts.now i 0)) e) in
-    rw first (within (omega arith) (also c.put_column_starts-next.ensures (rw c.start_at_lem.ensures at c.put_above.ensures)))
+    rw first (within (omega arith) (also c.put_column_starts-next.ensures (rw c.start_at.ensures at c.put_above.ensures)))

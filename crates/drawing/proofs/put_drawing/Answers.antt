@@ -42,11 +42,9 @@ view_of-v-requires c =
     let asked : let a = c.args in c.is_refusal.result ≡ not (has_rectangles a.t a.sb128 (unsigned a.w) (unsigned a.h)) = let a = c.args in
     c.is_refusal.ensures ∙ ap (λ (z : Answer × List ℕ). is_refusal z.0) (called) ∙ refuses a.t a.sb128 (unsigned a.w) (unsigned a.h) zeros roomy in
     let has : let a = c.args in has_rectangles a.t a.sb128 (unsigned a.w) (unsigned a.h) ≡ true = not-false _ (sym (asked) ∙ c.if-is_refusal.false) in
-    let k = c in
-    let s = c in
-    let a = s.args in
+    let a = c.args in
     let sizes = frame_sizes a.t a.sb128 (unsigned a.w) (unsigned a.h) (has) in
-    (rw (c.not_below_0.ensures, to_z-of_z s.ranges.w) sizes.0, rw (c.not_below_0-2.ensures, to_z-of_z s.ranges.h) sizes.1)
+    (rw (c.not_below_0.ensures, to_z-of_z c.ranges.w) sizes.0, rw (c.not_below_0-2.ensures, to_z-of_z c.ranges.h) sizes.1)
 
 pub side_of-requires : goal.side_of-requires
 side_of-requires c =
@@ -54,7 +52,6 @@ side_of-requires c =
     let asked : let a = c.args in c.is_refusal.result ≡ not (has_rectangles a.t a.sb128 (unsigned a.w) (unsigned a.h)) = let a = c.args in
     c.is_refusal.ensures ∙ ap (λ (z : Answer × List ℕ). is_refusal z.0) (called) ∙ refuses a.t a.sb128 (unsigned a.w) (unsigned a.h) zeros roomy in
     let has : let a = c.args in has_rectangles a.t a.sb128 (unsigned a.w) (unsigned a.h) ≡ true = not-false _ (sym (asked) ∙ c.if-is_refusal.false) in
-    let k = c in
     let a = c.args in
     (described a.t a.sb128 (unsigned a.w) (unsigned a.h) (has)).small_code
 
@@ -66,7 +63,6 @@ put_picture-requires c =
     let has : let a = c.args in has_rectangles a.t a.sb128 (unsigned a.w) (unsigned a.h) ≡ true = not-false _ (sym (asked) ∙ c.if-is_refusal.false) in
     let written : let a = c.args in c.tile_rectangles-answer.new.1.1.1.1.0 ≡ rectangles a.t a.sb128 (unsigned a.w) (unsigned a.h) ++ drop (rectangle_numbers a.t) zeros = let a = c.args in
     ap (λ (z : Answer × List ℕ). z.1) (called ∙ accepted a.t a.sb128 (unsigned a.w) (unsigned a.h) zeros roomy (has)) in
-    let k = c in
     let a = c.args in
     let t = a.t in
     let w = unsigned a.w in
@@ -90,12 +86,10 @@ returns c =
     let has : let a = c.args in has_rectangles a.t a.sb128 (unsigned a.w) (unsigned a.h) ≡ true = not-false _ (sym (asked) ∙ c.if-is_refusal.false) in
     let written : let a = c.args in c.tile_rectangles-answer.new.1.1.1.1.0 ≡ rectangles a.t a.sb128 (unsigned a.w) (unsigned a.h) ++ drop (rectangle_numbers a.t) zeros = let a = c.args in
     ap (λ (z : Answer × List ℕ). z.1) (called ∙ accepted a.t a.sb128 (unsigned a.w) (unsigned a.h) zeros roomy (has)) in
-    let k = c in
-    let s = c in
-    let a = s.args in
+    let a = c.args in
     let t = a.t in
     let w = unsigned a.w in
     let h = unsigned a.h in
     let d = described t a.sb128 w h (has) in
     rw (has, ← same_picture _ _ _ t _ _ d.some_cols d.some_rows (rects_of t a.sb128 w h _ _ (written)))
-    (rw (c.view_of-v.ensures.0, c.not_below_0.ensures, c.not_below_0-2.ensures, to_z-of_z s.ranges.w, to_z-of_z s.ranges.h, c.side_of.ensures.0) at c.put_picture.ensures)
+    (rw (c.view_of-v.ensures.0, c.not_below_0.ensures, c.not_below_0-2.ensures, to_z-of_z c.ranges.w, to_z-of_z c.ranges.h, c.side_of.ensures.0) at c.put_picture.ensures)

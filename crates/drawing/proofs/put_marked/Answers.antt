@@ -17,15 +17,13 @@ loop-i-init c = ((search rules, search rules), refl, within (omega arith) (none 
 
 pub loop-i-preserved : goal.loop-i-preserved
 loop-i-preserved c =
-    let l = c in
-    let s = c in
-    let t = s.args.template.now in
-    let xs = s.args.xs.now in
+    let t = c.args.template.now in
+    let xs = c.args.xs.now in
     let more = c.loop-i-test.true in
-    let size = longer (eqb (get_or t l.loop-i.i 0) mark) l.loop-i.k (length xs) in (
-      (search rules, omega (arith, l.loop-i.invariant.0.1, c.used_by-k.ensures.1)),
-      omega (arith, marks_more t l.loop-i.i more, c.used_by-k.ensures.0, l.loop-i.invariant.1),
-      rw (marked_more t xs l.loop-i.i l.loop-i.k more l.loop-i.invariant.1, c.used_by-k.ensures.0) (within (omega (arith, size)) (also l.loop-i.invariant.2 c.put_filler-next.ensures)),
+    let size = longer (eqb (get_or t c.loop-i.i 0) mark) c.loop-i.k (length xs) in (
+      (search rules, omega (arith, c.loop-i.invariant.0.1, c.used_by-k.ensures.1)),
+      omega (arith, marks_more t c.loop-i.i more, c.used_by-k.ensures.0, c.loop-i.invariant.1),
+      rw (marked_more t xs c.loop-i.i c.loop-i.k more c.loop-i.invariant.1, c.used_by-k.ensures.0) (within (omega (arith, size)) (also c.loop-i.invariant.2 c.put_filler-next.ensures)),
     )
 
 pub returns : goal.returns

@@ -6,11 +6,9 @@ use Rattle.drawing.proofs.put_number_at.Goals as goal
 
 pub returns-then-k-xs : goal.returns-then-k-xs
 returns-then-k-xs c =
-    let s = c in
-    rw (lt-ltb s.args.k (length s.args.xs.now) c.if-k-xs.true) c.put_number.ensures
+    rw (lt-ltb c.args.k (length c.args.xs.now) c.if-k-xs.true) c.put_number.ensures
 
 pub returns : goal.returns
 returns c =
-    let s = c in
     let none = c.if-k-xs.false in
-    rw (le-ltb s.args.k (length s.args.xs.now) none, get_or-eq_default s.args.xs.now 0 {n = s.args.k} none, small 0 (lit< tt)) c.put_byte.ensures
+    rw (le-ltb c.args.k (length c.args.xs.now) none, get_or-eq_default c.args.xs.now 0 {n = c.args.k} none, small 0 (lit< tt)) c.put_byte.ensures

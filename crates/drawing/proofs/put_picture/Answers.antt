@@ -93,21 +93,20 @@ pub put_grid-grid-requires : goal.put_grid-grid-requires
 put_grid-grid-requires c = (c.requires.0, c.requires.1)
 
 pub put_layout-layout-requires : goal.put_layout-layout-requires
-put_layout-layout-requires c = let k = c in (c.requires.0, cols_le k, rows_le k, room k)
+put_layout-layout-requires c = (c.requires.0, cols_le c, rows_le c, room c)
 
 pub put_columns-above-requires : goal.put_columns-above-requires
-put_columns-above-requires c = let k = c in (c.requires.0, cols_le k, in_row k)
+put_columns-above-requires c = (c.requires.0, cols_le c, in_row c)
 
 pub put_rows-left-requires : goal.put_rows-left-requires
-put_rows-left-requires c = let k = c in (c.requires.0, cols_le k, rows_le k, some_cols k, room k)
+put_rows-left-requires c = (c.requires.0, cols_le c, rows_le c, some_cols c, room c)
 
 pub returns : goal.returns
 unfolding picture_text word
 returns c =
-    let k = c in
     let a = c.args in
-    let cols = k.u8_to_usize-cols.result in
-    let rows = k.u8_to_usize-rows.result in
+    let cols = c.u8_to_usize-cols.result in
+    let rows = c.u8_to_usize-rows.result in
     let xs = a.xs.now in
     let last : cols - 1 ≡ 0 * cols + (cols - 1) = omega arith in
     let low : (rows - 1) * cols ≡ (rows - 1) * cols + 0 = omega arith in
@@ -117,7 +116,7 @@ returns c =
     let bottom : c.behind-bottom.result ≡ rows_end a.v rows (rect_of xs cols) =
     c.behind-bottom.ensures.0 ∙ ap (λ (s : Span). behind_of s (68 * a.v.unit)) (c.row.ensures.0
     ∙ ap (λ (r : List ℕ). row_of a.v (rows - 1) r) (c.rect_at-2.ensures ∙ ap (λ (n : ℕ). take 4 (drop (4 * n) xs)) low)) in
-    rw (← k.u8_to_usize-cols.ensures, ← k.u8_to_usize-rows.ensures, ← right, ← bottom)
+    rw (← c.u8_to_usize-cols.ensures, ← c.u8_to_usize-rows.ensures, ← right, ← bottom)
     (within (omega arith)
     (also (also (also (also (also (also c.put_head-head.ensures c.put_note-note.ensures) c.put_grid-grid.ensures) c.put_layout-layout.ensures) c.put_columns-above.ensures) c.put_rows-left.ensures) c.put_word.ensures))
 

@@ -35,15 +35,13 @@ put_tile-next-requires c = (c.requires.0, omega (arith, c.requires.1, c.loop-i-t
 
 pub loop-i-preserved : goal.loop-i-preserved
 loop-i-preserved c =
-    let l = c in
     let a = c.args in
-    (search rules, rw (← each_more (λ k. tile_text a.v k a.j (a.j * a.cols + k) (rect_of a.xs.now a.cols k a.j)) l.loop-i.i) (within (omega arith) (also l.loop-i.invariant.1 (rw c.rect_at.ensures at c.put_tile-next.ensures))))
+    (search rules, rw (← each_more (λ k. tile_text a.v k a.j (a.j * a.cols + k) (rect_of a.xs.now a.cols k a.j)) c.loop-i.i) (within (omega arith) (also c.loop-i.invariant.1 (rw c.rect_at.ensures at c.put_tile-next.ensures))))
 
 pub shape_of-out : goal.shape_of-out
 shape_of-out c = kept c.loop-i.invariant.1
 
 pub returns : goal.returns
 returns c =
-    let l = c in
-    let e : l.loop-i.i ≡ c.args.cols = omega arith in
-    within (omega (arith, c.requires.1)) (rw e at l.loop-i.invariant.1)
+    let e : c.loop-i.i ≡ c.args.cols = omega arith in
+    within (omega (arith, c.requires.1)) (rw e at c.loop-i.invariant.1)

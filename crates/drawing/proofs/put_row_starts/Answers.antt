@@ -41,11 +41,10 @@ put_left-next-requires c = c.requires.0.unit
 
 pub loop-j-preserved : goal.loop-j-preserved
 loop-j-preserved c =
-    let l = c in
     let a = c.args in (
       search rules,
-      rw (← each_more (λ k. left_text a.v.unit (row_of a.v k (take 4 (drop (4 * (k * a.cols)) a.xs.now))) (get_or a.starts.now k 0)) l.loop-j.j)
-          (within (omega arith) (also l.loop-j.invariant.1 (rw (c.start_at_lem.ensures, c.row.ensures.0, c.rect_at.ensures) at c.put_left-next.ensures))),
+      rw (← each_more (λ k. left_text a.v.unit (row_of a.v k (take 4 (drop (4 * (k * a.cols)) a.xs.now))) (get_or a.starts.now k 0)) c.loop-j.j)
+          (within (omega arith) (also c.loop-j.invariant.1 (rw (c.start_at.ensures, c.row.ensures.0, c.rect_at.ensures) at c.put_left-next.ensures))),
     )
 
 pub shape_of-out : goal.shape_of-out
@@ -53,6 +52,5 @@ shape_of-out c = kept c.loop-j.invariant.1
 
 pub returns : goal.returns
 returns c =
-    let l = c in
-    let e : l.loop-j.j ≡ c.args.rows = omega arith in
-    rw (← e) (within (omega (arith, c.requires.2)) l.loop-j.invariant.1)
+    let e : c.loop-j.j ≡ c.args.rows = omega arith in
+    rw (← e) (within (omega (arith, c.requires.2)) c.loop-j.invariant.1)

@@ -18,4 +18,4 @@ returns c =
     let a = c.args in
     let first = each_same (λ j. left_text a.v.unit (row_of a.v j (take 4 (drop (4 * (j * a.cols + 0)) a.xs.now))) (get_or a.starts.now j 0)) _ a.rows
     (λ j _. let e : j * a.cols + 0 ≡ j * a.cols = omega arith in ap (λ (k : ℕ). left_text a.v.unit (row_of a.v j (take 4 (drop (4 * k) a.xs.now))) (get_or a.starts.now j 0)) e) in
-    rw first (within (omega arith) (also c.put_row_starts-next.ensures (rw c.start_at_lem.ensures at c.put_left.ensures)))
+    rw first (within (omega arith) (also c.put_row_starts-next.ensures (rw c.start_at.ensures at c.put_left.ensures)))

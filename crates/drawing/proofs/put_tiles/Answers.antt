@@ -16,27 +16,23 @@ loop-j-init c = (search rules, none _ _)
 
 pub put_row-next-requires : goal.put_row-next-requires
 put_row-next-requires c =
-    let l = c in
-    let s = c in
-    let a = s.args in
-    let more : l.loop-j.j < a.rows = c.loop-j-test.true in (
-      s.requires.0,
-      s.requires.1,
-      omega (arith, s.requires.2),
-      omega (arith, s.requires.3, mul-le-mul_right {m = l.loop-j.j + 1} {n = a.rows} a.cols (omega arith), add-mul l.loop-j.j 1 a.cols),
+    let a = c.args in
+    let more : c.loop-j.j < a.rows = c.loop-j-test.true in (
+      c.requires.0,
+      c.requires.1,
+      omega (arith, c.requires.2),
+      omega (arith, c.requires.3, mul-le-mul_right {m = c.loop-j.j + 1} {n = a.rows} a.cols (omega arith), add-mul c.loop-j.j 1 a.cols),
     )
 
 pub loop-j-preserved : goal.loop-j-preserved
 loop-j-preserved c =
-    let l = c in
     let a = c.args in
-    (search rules, rw (← each_more (λ y. each a.cols λ x. tile_text a.v x y (y * a.cols + x) (rect_of a.xs.now a.cols x y)) l.loop-j.j) (within (omega arith) (also l.loop-j.invariant.1 c.put_row-next.ensures)))
+    (search rules, rw (← each_more (λ y. each a.cols λ x. tile_text a.v x y (y * a.cols + x) (rect_of a.xs.now a.cols x y)) c.loop-j.j) (within (omega arith) (also c.loop-j.invariant.1 c.put_row-next.ensures)))
 
 pub shape_of-out : goal.shape_of-out
 shape_of-out c = kept c.loop-j.invariant.1
 
 pub returns : goal.returns
 returns c =
-    let l = c in
-    let e : l.loop-j.j ≡ c.args.rows = omega arith in
-    rw (← e) (within (omega (arith, c.requires.2)) l.loop-j.invariant.1)
+    let e : c.loop-j.j ≡ c.args.rows = omega arith in
+    rw (← e) (within (omega (arith, c.requires.2)) c.loop-j.invariant.1)

@@ -25,13 +25,12 @@ lists c =
     point_lists (not mono.is-mono.result && not from-luma.flag-if.result.value) mono.before.before.args.s.now from-luma.flag-if.result.next
 
 -- the questions that they answer
-asked : (c : goal.After-refuse_grain) → let l = c in
-    l.point_lists-lists.result.refused || c.one_list_empty.result ≡ (lists l).refused || one_list_empty l.args.layout (lists l).num_points
+asked : (c : goal.After-refuse_grain) → 
+    c.point_lists-lists.result.refused || c.one_list_empty.result ≡ (lists c).refused || one_list_empty c.args.layout (lists c).num_points
 asked c =
-    let l = c in
-    let e = l.point_lists-lists.ensures.value in
-    let layout = l.args.layout in
-    ap (λ (b : Bool). l.point_lists-lists.result.refused || b) c.one_list_empty.ensures ∙ ap (λ (x : ListsEnd). x.refused || one_list_empty layout x.num_points) e
+    let e = c.point_lists-lists.ensures.value in
+    let layout = c.args.layout in
+    ap (λ (b : Bool). c.point_lists-lists.result.refused || b) c.one_list_empty.ensures ∙ ap (λ (x : ListsEnd). x.refused || one_list_empty layout x.num_points) e
 
 -- the reading up to these questions, and the answers
 pub returns-then-lists-one_list_empty : goal.returns-then-lists-one_list_empty
@@ -71,10 +70,16 @@ returns-then-lists-one_list_empty =
     )
 
 pub returns-then-lists-one_list_empty : goal.returns-then-lists-one_list_empty
-returns-then-lists-one_list_empty = answers.0
+returns-then-lists-one_list_empty =
+    let w = answers.0 in
+    record { value = w.0; grain_lists = w.1 }
 
 pub returns-then-next : goal.returns-then-next
-returns-then-next = answers.1
+returns-then-next =
+    let w = answers.1 in
+    record { value = w.0; grain_lists = w.1 }
 
 pub returns : goal.returns
-returns = answers.2
+returns =
+    let w = answers.2 in
+    record { value = w.0; grain_lists = w.1 }

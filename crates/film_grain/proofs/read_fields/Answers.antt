@@ -6,9 +6,7 @@ use Rattle.film_grain.proofs.read_fields.Goals as goal
 
 pub UNKNOWN-overflow-add-t28 : goal.UNKNOWN-overflow-add-t28
 UNKNOWN-overflow-add-t28 c =
-    let coeffs = c in
-    let scaling = coeffs in
-    omega (arith, scaling.get_small-scaling.ensures.below)
+    omega (arith, c.get_small-scaling.ensures.below)
 
 pub shape_of-y_coeffs : goal.shape_of-y_coeffs
 shape_of-y_coeffs c = c.plane_coeffs-coeffs_end.auto.1.1.1.1.1.0

@@ -7,9 +7,6 @@ use Rattle.flat.proofs.layout_in.Goals as goal
 pub returns : goal.returns
 unfolding layout_in
 returns c =
-    let f = c in
-    let d = f in
-    let s = d in
-    let a = s.args in
-    let roomy = has_room_lem (buffers a.info.now a.cols.now a.rows.now) (record { bytes = s.requires.0; cols = s.requires.1; rows = s.requires.2 }) in
-    rw (f.is_set.ensures, d.starts_of-row_start_sb.ensures, d.starts_of-col_start_sb.ensures) (sym (taken _ _ _ roomy))
+    let a = c.args in
+    let roomy = has_room_lem (buffers a.info.now a.cols.now a.rows.now) (record { bytes = c.requires.0; cols = c.requires.1; rows = c.requires.2 }) in
+    rw (c.is_set.ensures, c.starts_of-row_start_sb.ensures, c.starts_of-col_start_sb.ensures) (sym (taken _ _ _ roomy))

@@ -16,5 +16,4 @@ copy_deltas-requires c = (c.if-out-lt16.false, given_length c)
 
 pub returns : goal.returns
 returns c =
-    let k = c in
-    c.copy_deltas.ensures ∙ sym (taken _ _ _ (le-leb 16 (length k.args.out.now) k.if-out-lt16.false))
+    c.copy_deltas.ensures ∙ sym (taken _ _ _ (le-leb 16 (length c.args.out.now) c.if-out-lt16.false))

@@ -12,6 +12,4 @@ returns-then-out-lt65 c =
 
 pub returns : goal.returns
 returns c =
-    let k = c in
-    let e = k in
-    k.copy_starts.ensures ∙ sym (taken _ _ _ (le-leb 65 (length e.args.out.now) e.if-out-lt65.false))
+    c.copy_starts.ensures ∙ sym (taken _ _ _ (le-leb 65 (length c.args.out.now) c.if-out-lt65.false))

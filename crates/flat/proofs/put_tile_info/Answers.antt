@@ -13,18 +13,13 @@ given s = buffers s.args.info.now s.args.cols.now s.args.rows.now
 
 pub returns-then-has_room : goal.returns-then-has_room
 returns-then-has_room c =
-    let r = c in
-    let q = r in
-    let i = q in
-    let k = i in
-    let s = k in
-    let t = s.args.t in
-    let has : has_room (given s) ≡ true = sym k.has_room.ensures ∙ k.if-has_room.true in
-    let put = put_over t (given s) has i.put_layout_bytes.ensures q.put_starts.ensures r.put_starts-then-has_room.ensures in
-    (put, λ h. ap layout_in put ∙ comes_back t (given s) (cols_length t _ s.well_formed.0) (rows_length t _ s.well_formed.0) h)
+    let t = c.args.t in
+    let has : has_room (given c) ≡ true = sym c.has_room.ensures ∙ c.if-has_room.true in
+    let put = put_over t (given c) has c.put_layout_bytes.ensures c.put_starts.ensures c.put_starts-then-has_room.ensures in
+    record { rows_after = put; rows_after_2 = λ h. ap layout_in put ∙ comes_back t (given c) (cols_length t _ c.well_formed.0) (rows_length t _ c.well_formed.0) h }
 
 pub returns-else-has_room : goal.returns-else-has_room
 unfolding put_layout
 returns-else-has_room c =
     let lacks = sym c.has_room.ensures ∙ c.if-has_room.false in
-    (sym (left _ _ _ lacks), λ h. absurd (subst T (sym h ∙ lacks) tt))
+    record { rows_after = sym (left _ _ _ lacks); rows_after_2 = λ h. absurd (subst T (sym h ∙ lacks) tt) }

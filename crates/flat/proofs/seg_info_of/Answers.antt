@@ -12,14 +12,11 @@ returns-then-delta_q-lt16 c = c.no_seg_info.ensures ∙ sym (left _ _ _ (lt-leb 
 pub returns-then-masks-lt3 : goal.returns-then-masks-lt3
 unfolding seg_info_of
 returns-then-masks-lt3 c =
-    let k = c in
-    let a = k.args in
-    c.no_seg_info-then-masks-lt3.ensures ∙ sym (taken _ _ _ (le-leb 16 (length a.delta_q.now) k.if-delta_q-lt16.false) ∙ left _ _ _ (lt-leb 3 (length a.masks.now) c.if-masks-lt3.true))
+    let a = c.args in
+    c.no_seg_info-then-masks-lt3.ensures ∙ sym (taken _ _ _ (le-leb 16 (length a.delta_q.now) c.if-delta_q-lt16.false) ∙ left _ _ _ (lt-leb 3 (length a.masks.now) c.if-masks-lt3.true))
 
 pub returns : goal.returns
 unfolding seg_info_of
 returns c =
-    let d = c in
-    let k = d in
-    let a = k.args in
-    rw d.deltas_of-delta_q.ensures (sym (taken _ _ _ (le-leb 16 (length a.delta_q.now) k.if-delta_q-lt16.false) ∙ taken _ _ _ (le-leb 3 (length a.masks.now) d.if-masks-lt3.false)))
+    let a = c.args in
+    rw c.deltas_of-delta_q.ensures (sym (taken _ _ _ (le-leb 16 (length a.delta_q.now) c.if-delta_q-lt16.false) ∙ taken _ _ _ (le-leb 3 (length a.masks.now) c.if-masks-lt3.false)))

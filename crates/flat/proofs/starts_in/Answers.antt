@@ -9,5 +9,4 @@ returns-then-xs-lt65 c = sym (left _ _ _ (lt-leb 65 (length c.args.xs.now) c.if-
 
 pub returns : goal.returns
 returns c =
-    let e = c in
-    c.starts_of.ensures ∙ sym (taken _ _ _ (le-leb 65 (length e.args.xs.now) e.if-xs-lt65.false))
+    c.starts_of.ensures ∙ sym (taken _ _ _ (le-leb 65 (length c.args.xs.now) c.if-xs-lt65.false))

@@ -14,7 +14,6 @@ pub put_bytes-requires : goal.put_bytes-requires
 put_bytes-requires c =
     let tlayer_length : length c.args.d.tlayer_dependencies ≡ 8 = sym (length-map c.args.d.tlayer_dependencies (λ x. x)) ∙ c.well_formed.1.1.0.1.1.1.1.0.1.0.1 in
     let mlayer_length : length c.args.d.mlayer_dependencies ≡ 8 = sym (length-map c.args.d.mlayer_dependencies (λ x. x)) ∙ c.well_formed.1.1.0.1.1.1.1.1.0.1.0.1 in
-    let s = c in
     omega (arith, tlayer_length, mlayer_length)
 
 pub returns : goal.returns
@@ -22,8 +21,4 @@ unfolding flat_dependencies
 returns c =
     let tlayer_length : length c.args.d.tlayer_dependencies ≡ 8 = sym (length-map c.args.d.tlayer_dependencies (λ x. x)) ∙ c.well_formed.1.1.0.1.1.1.1.0.1.0.1 in
     let mlayer_length : length c.args.d.mlayer_dependencies ≡ 8 = sym (length-map c.args.d.mlayer_dependencies (λ x. x)) ∙ c.well_formed.1.1.0.1.1.1.1.1.0.1.0.1 in
-    let k3 = c in
-    let k2 = k3 in
-    let k1 = k2 in
-    let s = k1 in
-    both (both k1.put_bytes-at.ensures (rw (tlayer_length) at k2.put_bytes-at-2.ensures) (omega (arith, s.requires))) (rw (mlayer_length) at k3.put_bytes.ensures) (omega (arith, s.requires))
+    both (both c.put_bytes-at.ensures (rw (tlayer_length) at c.put_bytes-at-2.ensures) (omega (arith, c.requires))) (rw (mlayer_length) at c.put_bytes.ensures) (omega (arith, c.requires))

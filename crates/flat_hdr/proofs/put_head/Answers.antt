@@ -6,5 +6,4 @@ returns-then-out-lt146 c = too_short_lem c.if-out-lt146.true
 
 pub returns : goal.returns
 returns c =
-    let k = c in
-    put_in k.if-out-lt146.false (rw k.layout_number.ensures at c.put_bytes.ensures)
+    put_in c.if-out-lt146.false (rw c.layout_number.ensures at c.put_bytes.ensures)

@@ -10,9 +10,5 @@ returns-then-out-lt146 c = too_short_lem c.if-out-lt146.true
 pub returns : goal.returns
 unfolding flat_picture
 returns c =
-    let k4 = c in
-    let k3 = k4 in
-    let k2 = k3 in
-    let k1 = k2 in
-    let room = k1.if-out-lt146.false in
-    put_in room (both (both (both k1.put_layers-at.ensures k2.put_size-at.ensures (omega (arith, room))) k3.put_crop-at.ensures (omega (arith, room))) k4.put_dependencies.ensures (omega (arith, room)))
+    let room = c.if-out-lt146.false in
+    put_in room (both (both (both c.put_layers-at.ensures c.put_size-at.ensures (omega (arith, room))) c.put_crop-at.ensures (omega (arith, room))) c.put_dependencies.ensures (omega (arith, room)))

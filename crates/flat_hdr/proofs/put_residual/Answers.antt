@@ -10,8 +10,5 @@ returns-then-out-lt146 c = too_short_lem c.if-out-lt146.true
 pub returns : goal.returns
 unfolding flat_residual
 returns c =
-    let k3 = c in
-    let k2 = k3 in
-    let k1 = k2 in
-    let room = k1.if-out-lt146.false in
-    put_in room (both (both k1.put_transform-at.ensures k2.put_entropy-at.ensures (omega (arith, room))) k3.put_quant.ensures (omega (arith, room)))
+    let room = c.if-out-lt146.false in
+    put_in room (both (both c.put_transform-at.ensures c.put_entropy-at.ensures (omega (arith, room))) c.put_quant.ensures (omega (arith, room)))

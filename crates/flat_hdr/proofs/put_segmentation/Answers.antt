@@ -19,8 +19,4 @@ pub returns : goal.returns
 unfolding flat_segmentation
 returns c =
     let delta_length : length c.args.s.d.delta_q ≡ 16 = sym (length-map c.args.s.d.delta_q (λ x. x)) ∙ c.well_formed.1.1.0.1.1.1.1.1.0.1.1.0.1.0.1 in
-    let k3 = c in
-    let k2 = k3 in
-    let k1 = k2 in
-    let s = k1 in
-    both (both k1.put_bytes-at.ensures (rw (delta_length) at k2.put_deltas-at.ensures) (omega (arith, s.requires))) k3.put_masks.ensures (omega (arith, s.requires))
+    both (both c.put_bytes-at.ensures (rw (delta_length) at c.put_deltas-at.ensures) (omega (arith, c.requires))) c.put_masks.ensures (omega (arith, c.requires))

@@ -19,17 +19,15 @@ slice_set_of-out c = omega (arith, c.loop-i.invariant.long, c.if-out-lt146.false
 
 pub loop-i-preserved : goal.loop-i-preserved
 loop-i-preserved c =
-    let l = c in
-    let o = l.args.out.now in
+    let o = c.args.out.now in
     let long = length-replicate 146 (pos 0) in
-    front_turned o (replicate 146 (pos 0)) (omega (arith, long, l.if-out-lt146.false)) l.loop-i.out l.loop-i.i (pos 0) (pos 0) (omega (arith, long, c.loop-i-test.true)) (sym (get_or-replicate 146 l.loop-i.i (pos 0) (pos 0) c.loop-i-test.true)) l.loop-i.invariant
+    front_turned o (replicate 146 (pos 0)) (omega (arith, long, c.if-out-lt146.false)) c.loop-i.out c.loop-i.i (pos 0) (pos 0) (omega (arith, long, c.loop-i-test.true)) (sym (get_or-replicate 146 c.loop-i.i (pos 0) (pos 0) c.loop-i-test.true)) c.loop-i.invariant
 
 pub shape_of-out : goal.shape_of-out
 shape_of-out c = c.loop-i.invariant.long
 
 pub returns : goal.returns
 returns c =
-    let l = c in
-    let o = l.args.out.now in
-    over_front_lem o (replicate 146 (pos 0)) l.loop-i.out l.loop-i.i 146 (length-replicate 146 (pos 0)) c.loop-i-test.false l.loop-i.invariant
-    ∙ sym (taken _ _ _ (le-leb 146 (length o) l.if-out-lt146.false))
+    let o = c.args.out.now in
+    over_front_lem o (replicate 146 (pos 0)) c.loop-i.out c.loop-i.i 146 (length-replicate 146 (pos 0)) c.loop-i-test.false c.loop-i.invariant
+    ∙ sym (taken _ _ _ (le-leb 146 (length o) c.if-out-lt146.false))

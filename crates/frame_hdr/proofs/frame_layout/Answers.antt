@@ -9,26 +9,21 @@ use Rattle.frame_hdr.proofs.frame_layout.Goals as goal
 
 pub returns : goal.returns
 returns c =
-    let r = c in
-    let x = r in
-    let y = x in
-    let v = y in
-    let u = v in
-    let s = u in
-    let k = s.args in
+    let k = c.args in
     let h = k.hdr in
     let q = k.seq in
-    let good = s.well_formed.1.1.0.1.1.1.1.1.1.0 in
-    let seq-good = s.well_formed.1.1.1.0.1.1.1.1.1.1.1.1.0 in
-    let own = u.put_tile_info.ensures in
-    let theirs = v.put_tile_info-2.ensures in
+    let good = c.well_formed.1.1.0.1.1.1.1.1.1.0 in
+    let seq-good = c.well_formed.1.1.1.0.1.1.1.1.1.1.1.1.0 in
+    let own = c.put_tile_info.ensures in
+    let theirs = c.put_tile_info-2.ensures in
     let has = both_hold
     (ap has_room own.0 ∙ put_room h.tiling _ (cols_length h.tiling _ good) (rows_length h.tiling _ good) refl)
     (ap has_room theirs.0 ∙ put_room q.t _ (cols_length q.t _ seq-good) (rows_length q.t _ seq-good) refl) in
-    whole_frame k.s.now k.p h q _ _ (own.1 refl) (theirs.1 refl) (r.frame_layout_into-r.ensures.fact.0 has)
-    (back h.width y.struct_told-1.given.1.0.1)
-    (back h.height x.struct_told-2-1.given.1.1.0.1)
-    (back q.max_width x.struct_told-3-1.given.1.0.1)
-    (back q.max_height x.struct_told-4-1.given.1.1.0.1)
+    let w = whole_frame k.s.now k.p h q _ _ (own.1 refl) (theirs.1 refl) (c.frame_layout_into-r.ensures.fact.0 has)
+    (back h.width c.struct_told-1.given.1.0.1)
+    (back h.height c.struct_told-2-1.given.1.1.0.1)
+    (back q.max_width c.struct_told-3-1.given.1.0.1)
+    (back q.max_height c.struct_told-4-1.given.1.1.0.1)
     c.tile_info_of-tiling.ensures
-    c.with_layout_lem.ensures
+    c.with_layout.ensures in
+    record { value = w.0; frame_layout = w.1 }

@@ -70,20 +70,18 @@ tiled f v =
 pub returns-then-not-has_room : goal.returns-then-not-has_room
 unfolding parse_tile_info_frmhdr_into
 returns-then-not-has_room c =
-    let k = c in
-    let s = k in
-    let lacks = sym k.has_room.ensures ∙ not-true k.has_room.result c.if-not-has_room.true in
-    what-is-left (bytes s) s.args.p (own s) (theirs s) (header s) (sequence s) refl
-    (rw c.unread.ensures (sym (left _ _ _ (first_fails _ (has_room (theirs s)) lacks)))) refl refl
+    let lacks = sym c.has_room.ensures ∙ not-true c.has_room.result c.if-not-has_room.true in
+    let w = what-is-left (bytes c) c.args.p (own c) (theirs c) (header c) (sequence c) refl
+    (rw c.unread.ensures (sym (left _ _ _ (first_fails _ (has_room (theirs c)) lacks)))) refl refl in
+    record { after_after = w.0; fact = w.1; fact_2 = w.2 }
 
 pub returns-then-not-has_room-2 : goal.returns-then-not-has_room-2
 unfolding parse_tile_info_frmhdr_into
 returns-then-not-has_room-2 c =
-    let k = c in
-    let s = k in
-    let lacks = sym k.has_room-2.ensures ∙ not-true k.has_room-2.result c.if-not-has_room-2.true in
-    what-is-left (bytes s) s.args.p (own s) (theirs s) (header s) (sequence s) refl
-    (rw c.unread-then-not-has_room-2.ensures (sym (left _ _ _ (second_fails (has_room (own s)) _ lacks)))) refl refl
+    let lacks = sym c.has_room-2.ensures ∙ not-true c.has_room-2.result c.if-not-has_room-2.true in
+    let w = what-is-left (bytes c) c.args.p (own c) (theirs c) (header c) (sequence c) refl
+    (rw c.unread-then-not-has_room-2.ensures (sym (left _ _ _ (second_fails (has_room (own c)) _ lacks)))) refl refl in
+    record { after_after = w.0; fact = w.1; fact_2 = w.2 }
 
 pub is_usable-usable-requires : goal.is_usable-usable-requires
 is_usable-usable-requires c =
@@ -93,19 +91,17 @@ is_usable-usable-requires c =
 pub returns-then-not-sized-usable : goal.returns-then-not-sized-usable
 unfolding parse_tile_info_frmhdr_into parse_tile_info_frmhdr in_frame_domain
 returns-then-not-sized-usable c =
-    let own_room : has_room (own (start c)) ≡ true = let o = c in
-    sym o.has_room.ensures ∙ not-false o.has_room.result o.if-not-has_room.false in
+    let own_room : has_room (own (start c)) ≡ true = sym c.has_room.ensures ∙ not-false c.has_room.result c.if-not-has_room.false in
     let their_room : has_room (theirs (start c)) ≡ true = sym c.has_room-2.ensures ∙ not-false c.has_room-2.result c.if-not-has_room-2.false in
     let asked : c.is_extent.result && c.is_extent-2.result && c.is_usable-usable.result ≡ in_frame_domain (header (start (checked c))) (sequence (start (checked c))) = let f = (start (checked c)).ranges in
     all_three (rw (to_z-of_z f.width) at c.is_extent.ensures) (rw (to_z-of_z f.height) at c.is_extent-2.ensures)
     (rw (to_z-of_z f.max-width, to_z-of_z f.max-height) at c.is_usable-usable.ensures) in
-    let b = c in
-    let u = b in
-    let e = checked u in
+    let e = checked c in
     let s = start e in
-    let out = sym (asked) ∙ not-true _ b.if-not-sized-usable.true in
-    what-is-left (bytes s) s.args.p (own s) (theirs s) (header s) (sequence s) refl
-    (rw c.unread-then-not-sized-usable.ensures (sym (taken _ _ _ (both_hold (own_room e) (their_room e)) ∙ ap (λ (z : FrameRead). frame_into z (own s)) (left _ _ _ out)))) refl refl
+    let out = sym (asked) ∙ not-true _ c.if-not-sized-usable.true in
+    let w = what-is-left (bytes s) s.args.p (own s) (theirs s) (header s) (sequence s) refl
+    (rw c.unread-then-not-sized-usable.ensures (sym (taken _ _ _ (both_hold (own_room e) (their_room e)) ∙ ap (λ (z : FrameRead). frame_into z (own s)) (left _ _ _ out)))) refl refl in
+    record { after_after = w.0; fact = w.1; fact_2 = w.2 }
 
 pub reuse_allowed-allowed-requires : goal.reuse_allowed-allowed-requires
 unfolding in_frame_domain
@@ -120,19 +116,17 @@ reuse_allowed-allowed-requires c =
     let in_domain_lem : in_domain c.frame_args-a.result ≡ true = ap in_domain (made) ∙ frame_in_domain (header (begin c)) (sequence (begin c)) (inside) in
     let their_room : has_room (theirs (start c)) ≡ true = sym c.has_room-2.ensures ∙ not-false c.has_room-2.result c.if-not-has_room-2.false in
     let in_buffers : Tiled (sequence (start c)).t → Tiled (Held (theirs (start c))) = subst Tiled (held (theirs (start c)) (their_room)) in
-    let a = c in
-    let k = a in (
+    (
       in_domain_lem,
       λ on.
-          let t = in_buffers (checked k) ((known (sequence (begin k)) (fit)).tiled on) in
+          let t = in_buffers (checked c) ((known (sequence (begin c)) (fit)).tiled on) in
           ((usable_tiles_lem _ _ _ t.cols).small, (usable_tiles_lem _ _ _ t.rows).small),
     )
 
 pub reused_layout-requires : goal.reused_layout-requires
 unfolding in_frame_domain
 reused_layout-requires c =
-    let own_room : has_room (own (start c)) ≡ true = let o = c in
-    sym o.has_room.ensures ∙ not-false o.has_room.result o.if-not-has_room.false in
+    let own_room : has_room (own (start c)) ≡ true = sym c.has_room.ensures ∙ not-false c.has_room.result c.if-not-has_room.false in
     let asked : c.is_extent.result && c.is_extent-2.result && c.is_usable-usable.result ≡ in_frame_domain (header (start (checked c))) (sequence (start (checked c))) = let f = (start (checked c)).ranges in
     all_three (rw (to_z-of_z f.width) at c.is_extent.ensures) (rw (to_z-of_z f.height) at c.is_extent-2.ensures)
     (rw (to_z-of_z f.max-width, to_z-of_z f.max-height) at c.is_usable-usable.ensures) in
@@ -147,18 +141,15 @@ reused_layout-requires c =
     let q = sequence s in
     rw (c.is_set.ensures, to_z-of_z s.fits.max-width, to_z-of_z s.fits.max-height) at c.reuse_allowed-allowed.ensures
     ∙ allowed_in (args c).frame-args.result q (theirs s) (their_room (checked (args c).before.before)) refl (ap (λ (x : TileArgs). x.seq_code) (made (args c))) in
-    let i = c in
-    let f = i in
-    let e = checked (args f).before.before in
+    let e = checked (args c).before.before in
     let r = roomy e in
-    let t = tiled f i.if-reuse.true in
-    (in_domain_lem (args f), (own_room e, ((r.bytes, r.cols, r.rows), (t.cols, t.rows))))
+    let t = tiled c c.if-reuse.true in
+    (in_domain_lem (args c), (own_room e, ((r.bytes, r.cols, r.rows), (t.cols, t.rows))))
 
 pub returns-then-reuse : goal.returns-then-reuse
 unfolding parse_tile_info_frmhdr_into parse_tile_info_frmhdr in_frame_domain read_reuse
 returns-then-reuse c =
-    let own_room : has_room (own (start c)) ≡ true = let o = c in
-    sym o.has_room.ensures ∙ not-false o.has_room.result o.if-not-has_room.false in
+    let own_room : has_room (own (start c)) ≡ true = sym c.has_room.ensures ∙ not-false c.has_room.result c.if-not-has_room.false in
     let their_room : has_room (theirs (start c)) ≡ true = sym c.has_room-2.ensures ∙ not-false c.has_room-2.result c.if-not-has_room-2.false in
     let asked : c.is_extent.result && c.is_extent-2.result && c.is_usable-usable.result ≡ in_frame_domain (header (start (checked c))) (sequence (start (checked c))) = let f = (start (checked c)).ranges in
     all_three (rw (to_z-of_z f.width) at c.is_extent.ensures) (rw (to_z-of_z f.height) at c.is_extent-2.ensures)
@@ -171,23 +162,20 @@ returns-then-reuse c =
     rw (c.is_set.ensures, to_z-of_z s.fits.max-width, to_z-of_z s.fits.max-height) at c.reuse_allowed-allowed.ensures
     ∙ allowed_in (args c).frame-args.result q (theirs s) (their_room (checked (args c).before.before)) refl (ap (λ (x : TileArgs). x.seq_code) (made (args c))) in
     let answered : c.read_reuse-reuse.result ≡ read_reuse (bytes (begin (args c).before)) (begin (args c).before).args.p (args c).frame-args.result (sequence (begin (args c).before)) = rw (allowed) at c.read_reuse-reuse.ensures in
-    let l = c in
-    let i = l in
-    let f = i in
-    let a = args f in
+    let a = args c in
     let k = a.before in
     let e = checked k.before in
     let s = start e in
-    let read = taken _ _ _ (inside k) ∙ through _ _ (made a) ∙ through _ _ (answered) ∙ taken _ _ _ i.if-reuse.true in
-    let put = pair refl l.reused_layout.ensures ∙ ap (λ (z : FrameRead). frame_into z (own s)) (sym read) in
-    what-is-left (bytes s) s.args.p (own s) (theirs s) (header s) (sequence s) refl
-    (put ∙ sym (taken _ _ _ (both_hold (own_room e) (their_room e)))) c.cols-1.given c.rows-1.given
+    let read = taken _ _ _ (inside k) ∙ through _ _ (made a) ∙ through _ _ (answered) ∙ taken _ _ _ c.if-reuse.true in
+    let put = pair refl c.reused_layout.ensures ∙ ap (λ (z : FrameRead). frame_into z (own s)) (sym read) in
+    let w = what-is-left (bytes s) s.args.p (own s) (theirs s) (header s) (sequence s) refl
+    (put ∙ sym (taken _ _ _ (both_hold (own_room e) (their_room e)))) c.cols-1.given c.rows-1.given in
+    record { after_after = w.0; fact = w.1; fact_2 = w.2 }
 
 pub fresh_layout-requires : goal.fresh_layout-requires
 unfolding in_frame_domain
 fresh_layout-requires c =
-    let own_room : has_room (own (start c)) ≡ true = let o = c in
-    sym o.has_room.ensures ∙ not-false o.has_room.result o.if-not-has_room.false in
+    let own_room : has_room (own (start c)) ≡ true = sym c.has_room.ensures ∙ not-false c.has_room.result c.if-not-has_room.false in
     let made : c.frame_args-a.result ≡ frame_args (header (begin c)) (sequence (begin c)) = let f = (begin c).ranges in
     rw (to_z-of_z f.width, to_z-of_z f.height) at c.frame_args-a.ensures in
     let asked : c.is_extent.result && c.is_extent-2.result && c.is_usable-usable.result ≡ in_frame_domain (header (start (checked c))) (sequence (start (checked c))) = let f = (start (checked c)).ranges in
@@ -195,16 +183,14 @@ fresh_layout-requires c =
     (rw (to_z-of_z f.max-width, to_z-of_z f.max-height) at c.is_usable-usable.ensures) in
     let inside : in_frame_domain (header (begin c)) (sequence (begin c)) ≡ true = sym (asked) ∙ not-false _ c.if-not-sized-usable.false in
     let in_domain_lem : in_domain c.frame_args-a.result ≡ true = ap in_domain (made) ∙ frame_in_domain (header (begin c)) (sequence (begin c)) (inside) in
-    let f = c in
-    let a = args f in
+    let a = args c in
     let s = begin a.before in
     (in_domain_lem a, (rw (to_z-of_z s.fits.width, to_z-of_z s.fits.height) (ap (λ (x : TileArgs). x.width) (made a), ap (λ (x : TileArgs). x.height) (made a)), own_room (checked a.before.before)))
 
 pub returns : goal.returns
 unfolding parse_tile_info_frmhdr_into parse_tile_info_frmhdr in_frame_domain read_reuse
 returns c =
-    let own_room : has_room (own (start c)) ≡ true = let o = c in
-    sym o.has_room.ensures ∙ not-false o.has_room.result o.if-not-has_room.false in
+    let own_room : has_room (own (start c)) ≡ true = sym c.has_room.ensures ∙ not-false c.has_room.result c.if-not-has_room.false in
     let their_room : has_room (theirs (start c)) ≡ true = sym c.has_room-2.ensures ∙ not-false c.has_room-2.result c.if-not-has_room-2.false in
     let asked : c.is_extent.result && c.is_extent-2.result && c.is_usable-usable.result ≡ in_frame_domain (header (start (checked c))) (sequence (start (checked c))) = let f = (start (checked c)).ranges in
     all_three (rw (to_z-of_z f.width) at c.is_extent.ensures) (rw (to_z-of_z f.height) at c.is_extent-2.ensures)
@@ -217,17 +203,15 @@ returns c =
     rw (c.is_set.ensures, to_z-of_z s.fits.max-width, to_z-of_z s.fits.max-height) at c.reuse_allowed-allowed.ensures
     ∙ allowed_in (args c).frame-args.result q (theirs s) (their_room (checked (args c).before.before)) refl (ap (λ (x : TileArgs). x.seq_code) (made (args c))) in
     let answered : c.read_reuse-reuse.result ≡ read_reuse (bytes (begin (args c).before)) (begin (args c).before).args.p (args c).frame-args.result (sequence (begin (args c).before)) = rw (allowed) at c.read_reuse-reuse.ensures in
-    let l = c in
-    let i = l in
-    let f = i in
-    let a = args f in
+    let a = args c in
     let k = a.before in
     let e = checked k.before in
     let s = start e in
-    let read = taken _ _ _ (inside k) ∙ through _ _ (made a) ∙ through _ _ (answered) ∙ left _ _ _ i.if-reuse.false in
-    let put = fresh_into (bytes s) f.read_reuse-reuse.result.next (header s) a.frame-args.result (own s) refl _ _ l.fresh_layout.ensures ∙ ap (λ (z : FrameRead). frame_into z (own s)) (sym read) in
-    what-is-left (bytes s) s.args.p (own s) (theirs s) (header s) (sequence s) refl
-    (put ∙ sym (taken _ _ _ (both_hold (own_room e) (their_room e)))) c.cols-2-1.given c.rows-2-1.given
+    let read = taken _ _ _ (inside k) ∙ through _ _ (made a) ∙ through _ _ (answered) ∙ left _ _ _ c.if-reuse.false in
+    let put = fresh_into (bytes s) c.read_reuse-reuse.result.next (header s) a.frame-args.result (own s) refl _ _ c.fresh_layout.ensures ∙ ap (λ (z : FrameRead). frame_into z (own s)) (sym read) in
+    let w = what-is-left (bytes s) s.args.p (own s) (theirs s) (header s) (sequence s) refl
+    (put ∙ sym (taken _ _ _ (both_hold (own_room e) (their_room e)))) c.cols-2-1.given c.rows-2-1.given in
+    record { after_after = w.0; fact = w.1; fact_2 = w.2 }
 
 pub bounds-seq_info-0 : goal.bounds-seq_info-0
 bounds-seq_info-0 c = omega (arith, (roomy (checked c)).bytes)

@@ -52,9 +52,8 @@ unfolding parse_tile_info_into
 returns-then-is_refusal c =
     let small : c.args.a.multiplier < 2 ^ 31 = lt_of_le_of_lt (low_multiplier c.args.a (domain c.args.a c.requires.a_value)) (lit< tt) in
     let args : args_of (to_z w32 c.args.a.multiplier) c.args.a.frame_code c.args.a.seq_code c.args.width c.args.height c.args.a.level c.args.a.tier ≡ c.args.a = rw (to_z_pos w32 c.args.a.multiplier (small), ← c.requires.width_value.0.0.0, ← c.requires.width_value.0.0.1) refl in
-    let z = c in
-    let s = start z in
-    let into = simp (to_z-of_z s.fits.width, to_z-of_z s.fits.height, args s) at z.parse_tile_info_into-r.ensures.after_after in
+    let s = start c in
+    let into = simp (to_z-of_z s.fits.width, to_z-of_z s.fits.height, args s) at c.parse_tile_info_into-r.ensures.after_after in
     coded (fresh s) (given s) s.args.sb128 s.args.a.frame_code (into ∙ taken _ _ _ s.pre.1.1) s.args.sb128 c.is_refusal.ensures c.if-is_refusal.true refl
 
 pub returns : goal.returns
@@ -62,7 +61,6 @@ unfolding parse_tile_info_into
 returns c =
     let small : c.args.a.multiplier < 2 ^ 31 = lt_of_le_of_lt (low_multiplier c.args.a (domain c.args.a c.requires.a_value)) (lit< tt) in
     let args : args_of (to_z w32 c.args.a.multiplier) c.args.a.frame_code c.args.a.seq_code c.args.width c.args.height c.args.a.level c.args.a.tier ≡ c.args.a = rw (to_z_pos w32 c.args.a.multiplier (small), ← c.requires.width_value.0.0.0, ← c.requires.width_value.0.0.1) refl in
-    let z = c in
-    let s = start z in
-    let into = simp (to_z-of_z s.fits.width, to_z-of_z s.fits.height, args s) at z.parse_tile_info_into-r.ensures.after_after in
+    let s = start c in
+    let into = simp (to_z-of_z s.fits.width, to_z-of_z s.fits.height, args s) at c.parse_tile_info_into-r.ensures.after_after in
     coded (fresh s) (given s) s.args.sb128 s.args.a.frame_code (into ∙ taken _ _ _ s.pre.1.1) s.args.a.frame_code c.is_refusal.ensures c.if-is_refusal.false refl

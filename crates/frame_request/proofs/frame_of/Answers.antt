@@ -6,7 +6,6 @@ use Rattle.frame_request.proofs.frame_of.Goals as goal
 
 pub returns : goal.returns
 returns c =
-    let a = c in
-    let w : a.args.w < 2 ^ 31 = omega arith in
-    let h : a.args.h < 2 ^ 31 = omega arith in
-    rw (to_z_pos w32 a.args.w w, to_z_pos w32 a.args.h h, c.no_tile_info-tiling.ensures)
+    let w : c.args.w < 2 ^ 31 = omega arith in
+    let h : c.args.h < 2 ^ 31 = omega arith in
+    rw (to_z_pos w32 c.args.w w, to_z_pos w32 c.args.h h, c.no_tile_info-tiling.ensures)

@@ -6,13 +6,9 @@ use Rattle.frame_request.proofs.put_frame_read.Goals as goal
 pub returns-then-is_refusal : goal.returns-then-is_refusal
 unfolding frame_read_text
 returns-then-is_refusal c =
-    let p = c in
-    let t = p in
-    rw (← t.is_refusal.ensures, t.if-is_refusal.true, ← p.number.ensures) (within (omega arith) p.Put-refused.ensures)
+    rw (← c.is_refusal.ensures, c.if-is_refusal.true, ← c.number.ensures) (within (omega arith) c.Put-refused.ensures)
 
 pub returns : goal.returns
 unfolding frame_read_text
 returns c =
-    let p = c in
-    let e = p in
-    rw (← e.is_refusal.ensures, e.if-is_refusal.false) p.put_whole_layout.ensures
+    rw (← c.is_refusal.ensures, c.if-is_refusal.false) c.put_whole_layout.ensures

@@ -11,8 +11,7 @@ use Rattle.frame_request.proofs.request_header.Goals as goal
 
 pub slice_bounds-parse_seq_hdr-end : goal.slice_bounds-parse_seq_hdr-end
 slice_bounds-parse_seq_hdr-end c =
-    let x = c in
-    omega (arith, long x.args.s.now x.requires, c.two_at-at_frame.ensures.0)
+    omega (arith, long c.args.s.now c.requires, c.two_at-at_frame.ensures.0)
 
 pub returns : goal.returns
 returns c =

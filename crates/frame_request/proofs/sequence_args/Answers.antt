@@ -14,5 +14,4 @@ request_header-q-requires c = sym c.is_request.ensures ∙ not-false _ c.if-not-
 pub returns : goal.returns
 unfolding sequence_args
 returns c =
-    let k = c in
-    sym (taken _ _ _ (sym k.is_request.ensures ∙ not-false _ k.if-not-is_request.false) ∙ through _ _ c.request_header-q.ensures)
+    sym (taken _ _ _ (sym c.is_request.ensures ∙ not-false _ c.if-not-is_request.false) ∙ through _ _ c.request_header-q.ensures)

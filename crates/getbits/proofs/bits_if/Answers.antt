@@ -6,8 +6,7 @@ use Rattle.getbits.proofs.bits_if.Goals as goal
 pub returns-then-cond : goal.returns-then-cond
 unfolding bits_if
 returns-then-cond c =
-    let k = c in
-    rw c.if-cond.true (rw (to_z-of_z k.ranges.n) at c.get_bits.ensures)
+    rw c.if-cond.true (rw (to_z-of_z c.ranges.n) at c.get_bits.ensures)
 
 pub returns-else-cond : goal.returns-else-cond
 unfolding bits_if

@@ -6,17 +6,14 @@ use Rattle.getbits.proofs.get_bits.Goals as goal
 
 pub returns-then-n-lt0 : goal.returns-then-n-lt0
 returns-then-n-lt0 c =
-    let k = c in
-    c.refuse.ensures ∙ width_negative k.args.s.now k.args.p k.args.n (rw (to_z-of_z k.ranges.n) at c.if-n-lt0.true)
+    c.refuse.ensures ∙ width_negative c.args.s.now c.args.p c.args.n (rw (to_z-of_z c.ranges.n) at c.if-n-lt0.true)
 
 pub overflow_cast-n : goal.overflow_cast-n
 overflow_cast-n c =
-    let k = c in
-    let h = rw (to_z-of_z k.ranges.n) at c.if-n-lt0.false in
-    rw (to_z-of_z k.ranges.n) ((not_negative k.args.n h).0, nat_abs_fits k.args.n k.ranges.n)
+    let h = rw (to_z-of_z c.ranges.n) at c.if-n-lt0.false in
+    rw (to_z-of_z c.ranges.n) ((not_negative c.args.n h).0, nat_abs_fits c.args.n c.ranges.n)
 
 pub returns : goal.returns
 returns c =
-    let k = c in
-    let h = rw (to_z-of_z k.ranges.n) at c.if-n-lt0.false in
-    rw (to_z-of_z k.ranges.n) at c.read_bits.ensures ∙ ap (get_bits k.args.s.now k.args.p) (not_negative k.args.n h).1
+    let h = rw (to_z-of_z c.ranges.n) at c.if-n-lt0.false in
+    rw (to_z-of_z c.ranges.n) at c.read_bits.ensures ∙ ap (get_bits c.args.s.now c.args.p) (not_negative c.args.n h).1

@@ -8,9 +8,8 @@ use Rattle.getbits.proofs.look.Goals as goal
 
 pub returns-then-n-le32 : goal.returns-then-n-le32
 returns-then-n-le32 c =
-    let k = c in
-    let a = k.args in
-    looked a.s.now a.p k.settle-q.result a.n k.settle-q.ensures.0 (search rules) c.peek.ensures
+    let a = c.args in
+    looked a.s.now a.p c.settle-q.result a.n c.settle-q.ensures.0 (search rules) c.peek.ensures
 
 pub returns : goal.returns
 unfolding look_at

@@ -13,16 +13,14 @@ returns-then-n-gt32 c =
 
 pub returns-then-s-byte : goal.returns-then-s-byte
 returns-then-s-byte c =
-    let k = c in
-    let a = k.args in
-    let at = k.settle-q.ensures.0 in
+    let a = c.args in
+    let at = c.settle-q.ensures.0 in
     c.exhausted.ensures
     ∙ read_short a.s.now a.p a.n (omega (arith, ap (λ (x : Place). x.byte) at, ap (λ (x : Place). x.used) at, pos_le a.s.now a.p))
     ∙ width_in a.s.now a.p a.n (search rules)
 
 pub returns : goal.returns
 returns c =
-    let k = c in
-    let a = k.args in
-    read_at a.s.now a.p k.settle-q.result a.n k.settle-q.ensures.0 (omega arith) c.peek.ensures
+    let a = c.args in
+    read_at a.s.now a.p c.settle-q.result a.n c.settle-q.ensures.0 (omega arith) c.peek.ensures
     ∙ width_in a.s.now a.p a.n (search rules)

@@ -30,8 +30,7 @@ returns c =
     let twice : 2 ^ c.args.n ≡ 2 * c.power-half.result = let n = c.args.n in
     let e : n ≡ suc (n - 1) = omega arith in
     omega (arith, power_below (omega arith) c.power-half.ensures.0, pow-suc 2 (n - 1), ap (λ (x : ℕ). 2 ^ x) e) in
-    let k = c in
-    let a = k.args in
+    let a = c.args in
     let e = twice in
     back c.below_zero.result c.below_zero.type_inv
     ∙ c.below_zero.ensures

@@ -26,23 +26,20 @@ few c = let a = c.args in ltb-false (position a.s.now a.p + a.n) (bit_count a.s.
 
 pub overflow_add-result : goal.overflow_add-result
 overflow_add-result c =
-    let k = c in
-    omega (arith, more k, at k, k.well_formed)
+    omega (arith, more c, at c, c.well_formed)
 
 pub returns-then-more_than : goal.returns-then-more_than
 returns-then-more_than c =
-    let k = c in
-    let a = k.args in
-    place_at_lem _ _ (position a.s.now a.p + a.n) _ (omega (arith, at k)) (omega arith)
-    ∙ sym (ap (λ (r : Number). r.next) (read_there a.s.now a.p a.n (omega (arith, more k))))
+    let a = c.args in
+    place_at_lem _ _ (position a.s.now a.p + a.n) _ (omega (arith, at c)) (omega arith)
+    ∙ sym (ap (λ (r : Number). r.next) (read_there a.s.now a.p a.n (omega (arith, more c))))
 
 pub returns-then-q-n : goal.returns-then-q-n
 returns-then-q-n c =
     let settled_at : let a = c.args in 8 * c.settle-q.result.byte + c.settle-q.result.used ≡ position a.s.now a.p = let e = c.settle-q.ensures.0 in
     omega (arith, ap (λ (x : Place). x.byte) e, ap (λ (x : Place). x.used) e) in
-    let q = c in
-    let a = q.args in
-    let all : position a.s.now a.p + a.n ≡ bit_count a.s.now = omega (arith, few q, settled_at, c.if-q-n.true) in
+    let a = c.args in
+    let all : position a.s.now a.p + a.n ≡ bit_count a.s.now = omega (arith, few c, settled_at, c.if-q-n.true) in
     place_end a.s.now a.p.error
     ∙ sym (ap (λ (r : Number). r.next) (read_there a.s.now a.p a.n (omega (arith, all))) ∙ rw all)
 
@@ -50,7 +47,5 @@ pub returns : goal.returns
 returns c =
     let settled_at : let a = c.args in 8 * c.settle-q.result.byte + c.settle-q.result.used ≡ position a.s.now a.p = let e = c.settle-q.ensures.0 in
     omega (arith, ap (λ (x : Place). x.byte) e, ap (λ (x : Place). x.used) e) in
-    let k = c in
-    let q = k in
-    let a = q.args in
-    ap (λ (r : Number). r.next) (k.exhausted-r.ensures ∙ read_short a.s.now a.p a.n (omega (arith, settled_at, k.if-q-n.false)))
+    let a = c.args in
+    ap (λ (r : Number). r.next) (c.exhausted-r.ensures ∙ read_short a.s.now a.p a.n (omega (arith, settled_at, c.if-q-n.false)))

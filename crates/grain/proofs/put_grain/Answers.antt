@@ -8,9 +8,6 @@ use Rattle.grain.proofs.put_grain.Goals as goal
 pub returns : goal.returns
 unfolding grain_text planes_line lines word
 returns c =
-    let filled = c in
-    let wide = filled in
-    let flat = wide in
-    let fgd = flat.args.fgd in
-    let numbers : wide.widened-xs.result ≡ flat_film_grain fgd = wide.widened-xs.ensures ∙ flat.put_film_grain.ensures.out_after ∙ append-nil (flat_film_grain fgd) in
-    rw (← numbers) filled.put_filled.ensures
+    let fgd = c.args.fgd in
+    let numbers : c.widened-xs.result ≡ flat_film_grain fgd = c.widened-xs.ensures ∙ c.put_film_grain.ensures.out_after ∙ append-nil (flat_film_grain fgd) in
+    rw (← numbers) c.put_filled.ensures

@@ -5,6 +5,4 @@ use Rattle.grain.proofs.put_grain_accepted.Goals as goal
 pub returns : goal.returns
 unfolding grain_accepted_text
 returns c =
-    let fields = c in
-    let head = fields in
-    also head.put_ok-head.ensures fields.put_grain.ensures
+    also c.put_ok-head.ensures c.put_grain.ensures

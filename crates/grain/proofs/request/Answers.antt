@@ -40,17 +40,14 @@ slice_bounds-parse_film_grain_data-start c =
 pub returns-then-is_request : goal.returns-then-is_request
 unfolding grain_request
 returns-then-is_request c =
-    let l = c in
-    let t = l in
-    let s = t.args.s.now in
+    let s = c.args.s.now in
     let rest : take (length s - 1) (drop 1 s) ≡ drop 1 s = take_all (length s - 1) (drop 1 s) (simp length-drop (omega arith)) in
-    rw l.layout_of-layout.ensures at c.parse_film_grain_data.ensures.value
+    rw c.layout_of-layout.ensures at c.parse_film_grain_data.ensures.value
     ∙ ap (λ (x : List ℕ). parse_film_grain_data x (place_at 0 false) (layout_of (get_or s 0 0))) rest
-    ∙ sym (taken _ _ _ (sym t.is_request.ensures ∙ t.if-is_request.true))
+    ∙ sym (taken _ _ _ (sym c.is_request.ensures ∙ c.if-is_request.true))
 
 pub returns : goal.returns
 unfolding grain_request
 returns c =
-    let k = c in
     ap (λ (x : FilmGrainData). record { answer = WrongArguments; fgd = x; next = place_at 0 false }) c.no_film_grain-none.ensures
-    ∙ sym (left _ _ _ (sym k.is_request.ensures ∙ c.if-is_request.false))
+    ∙ sym (left _ _ _ (sym c.is_request.ensures ∙ c.if-is_request.false))

@@ -19,14 +19,10 @@ overflow_cast-wide c = sign_fits w16 w64 (get_or c.args.t1 c.loop-i.i (pos 0)) t
 
 pub loop-i-preserved : goal.loop-i-preserved
 loop-i-preserved c =
-    let l = c in
-    let s = l in
-    let xs = s.args.t1 in
-    filled 186 xs (pos 0) (omega (arith, count s)) l.loop-i.wide l.loop-i.i _ c.loop-i-test.true (sign_kept w16 w64 (get_or xs l.loop-i.i (pos 0)) tt c.wide-1.given) l.loop-i.invariant
+    let xs = c.args.t1 in
+    filled 186 xs (pos 0) (omega (arith, count c)) c.loop-i.wide c.loop-i.i _ c.loop-i-test.true (sign_kept w16 w64 (get_or xs c.loop-i.i (pos 0)) tt c.wide-1.given) c.loop-i.invariant
 
 pub returns : goal.returns
 returns c =
-    let l = c in
-    let s = l in
-    let xs = s.args.t1 in
-    full 186 xs (pos 0) (omega (arith, count s)) l.loop-i.wide l.loop-i.i c.loop-i-test.false l.loop-i.invariant ∙ take_all 186 xs (omega (arith, count s))
+    let xs = c.args.t1 in
+    full 186 xs (pos 0) (omega (arith, count c)) c.loop-i.wide c.loop-i.i c.loop-i-test.false c.loop-i.invariant ∙ take_all 186 xs (omega (arith, count c))

@@ -2,4 +2,4 @@ use mathlib.Core.Path.{refl}
 use Rattle.layout_row.proofs.has_row.Goals as goal
 
 pub returns : goal.returns
-returns c = rw c.in_domain_lem.ensures refl
+returns c = rw c.in_domain.ensures refl

@@ -24,10 +24,9 @@ put_layout-bits-requires c = sym c.has_row.ensures ∙ c.if-has_row.true
 pub returns-then-has_row : goal.returns-then-has_row
 unfolding row_of
 returns-then-has_row c =
-    let k = c in
-    let a = k.args in
+    let a = c.args in
     let h = c.put_layout-bits.ensures.holds [] empty in
-    rw (taken _ (layout_bits a.a a.t) [] (sym k.has_row.ensures ∙ k.if-has_row.true)) (h.long, h.made)
+    rw (taken _ (layout_bits a.a a.t) [] (sym c.has_row.ensures ∙ c.if-has_row.true)) (h.long, h.made)
 
 pub returns : goal.returns
 unfolding row_of

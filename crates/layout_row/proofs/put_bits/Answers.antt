@@ -10,28 +10,21 @@ loop-left-init c = (omega arith, rw (digits_none c.args.n (c.args.v / 2 ^ c.args
 
 pub overflow_shr-v : goal.overflow_shr-v
 overflow_shr-v c =
-    let l = c in
-    omega (arith, l.requires, l.loop-left.invariant.0)
+    omega (arith, c.requires, c.loop-left.invariant.0)
 
 -- there is room for the next bit
 pub put_bit-end-requires : goal.put_bit-end-requires
 put_bit-end-requires c =
-    let l = c in
-    let s = l in
-    let e = length_bits (s.args.n - l.loop-left.left) (s.args.v / 2 ^ l.loop-left.left) in
-    (omega (arith, l.loop-left.invariant.1.ends, e, s.requires.0, c.loop-left-test.true, l.loop-left.invariant.0), omega arith)
+    let e = length_bits (c.args.n - c.loop-left.left) (c.args.v / 2 ^ c.loop-left.left) in
+    (omega (arith, c.loop-left.invariant.1.ends, e, c.requires.0, c.loop-left-test.true, c.loop-left.invariant.0), omega arith)
 
 pub loop-left-preserved : goal.loop-left-preserved
-loop-left-preserved c =
-    let l = c in
-    let s = l in (
-      omega (arith, l.loop-left.invariant.0),
-      rw (digits_more s.args.n s.args.v l.loop-left.left c.loop-left-test.true l.loop-left.invariant.0) (both l.loop-left.invariant.1 c.put_bit-end.ensures),
+loop-left-preserved c =(
+      omega (arith, c.loop-left.invariant.0),
+      rw (digits_more c.args.n c.args.v c.loop-left.left c.loop-left-test.true c.loop-left.invariant.0) (both c.loop-left.invariant.1 c.put_bit-end.ensures),
     )
 
 pub returns : goal.returns
 returns c =
-    let l = c in
-    let s = l in
-    let e : l.loop-left.left ≡ 0 = omega arith in
-    rw (digits_all s.args.n s.args.v) at (rw e at l.loop-left.invariant.1)
+    let e : c.loop-left.left ≡ 0 = omega arith in
+    rw (digits_all c.args.n c.args.v) at (rw e at c.loop-left.invariant.1)

@@ -11,22 +11,18 @@ use Rattle.layout_row.proofs.put_layout.Goals as goal
 pub returns-then-t : goal.returns-then-t
 unfolding layout_bits
 returns-then-t c =
-    let b = c in
-    let a = b.args in
-    rw (taken a.t.uniform _ _ b.if-t.true) (append.both b.put_bit-at.ensures c.put_logs.ensures)
+    let a = c.args in
+    rw (taken a.t.uniform _ _ c.if-t.true) (append.both c.put_bit-at.ensures c.put_logs.ensures)
 
 pub put_sides-requires : goal.put_sides-requires
 put_sides-requires c =
-    let b = c in
-    let s = b in
-    let a = s.args in
-    let p = both (in_domain a.a && leb a.t.cols 64) (leb a.t.rows 64) s.requires in
+    let a = c.args in
+    let p = both (in_domain a.a && leb a.t.cols 64) (leb a.t.rows 64) c.requires in
     let q = both (in_domain a.a) (leb a.t.cols 64) p.0 in
-    (omega (arith, b.put_bit-at-2.ensures.ends), q.0, leb-true a.t.cols 64 q.1, leb-true a.t.rows 64 p.1)
+    (omega (arith, c.put_bit-at-2.ensures.ends), q.0, leb-true a.t.cols 64 q.1, leb-true a.t.rows 64 p.1)
 
 pub returns : goal.returns
 unfolding layout_bits
 returns c =
-    let b = c in
-    let a = b.args in
-    rw (left a.t.uniform _ _ b.if-t.false) (append.both b.put_bit-at-2.ensures c.put_sides.ensures)
+    let a = c.args in
+    rw (left a.t.uniform _ _ c.if-t.false) (append.both c.put_bit-at-2.ensures c.put_sides.ensures)

@@ -26,8 +26,7 @@ put_bit-end-requires c = (room c, omega arith)
 
 pub loop-i-preserved : goal.loop-i-preserved
 loop-i-preserved c =
-    let l = c in
-    (omega (arith, c.loop-i-test.true), rw (ones_more l.loop-i.i) (both l.loop-i.invariant.1 c.put_bit-end.ensures))
+    (omega (arith, c.loop-i-test.true), rw (ones_more c.loop-i.i) (both c.loop-i.invariant.1 c.put_bit-end.ensures))
 
 pub put_bit-requires : goal.put_bit-requires
 put_bit-requires c = (room c, omega arith)
@@ -35,17 +34,15 @@ put_bit-requires c = (room c, omega arith)
 pub returns-then-n-most : goal.returns-then-n-most
 unfolding ones_code
 returns-then-n-most c =
-    let k = c in
-    let a = k.args in
-    let all = all_ones k k.loop-i-test.false in (
+    let a = c.args in
+    let all = all_ones c c.loop-i-test.false in (
       rw (lt-ltb a.n a.most c.if-n-most.true) (both all c.put_bit.ensures),
-      omega (arith, all.ends, ones_length a.n, c.put_bit.ensures.ends, k.ranges.n),
+      omega (arith, all.ends, ones_length a.n, c.put_bit.ensures.ends, c.ranges.n),
     )
 
 pub returns : goal.returns
 unfolding ones_code
 returns c =
-    let k = c in
-    let a = k.args in
-    let all = all_ones k k.loop-i-test.false in
-    (rw (le-ltb a.n a.most c.if-n-most.false, append-nil (ones a.n)) all, omega (arith, all.ends, ones_length a.n, k.ranges.n))
+    let a = c.args in
+    let all = all_ones c c.loop-i-test.false in
+    (rw (le-ltb a.n a.most c.if-n-most.false, append-nil (ones a.n)) all, omega (arith, all.ends, ones_length a.n, c.ranges.n))

@@ -46,8 +46,7 @@ unfolding sides_code
 returns c =
     let total : c.col_bounds.result.total.0 ≡ sbw (start c).args.a = c.col_bounds.ensures.0 ∙ taken _ _ _ (start c).requires.1 in
     let total_down : c.row_bounds.result.total.0 ≡ sbh (start (cols-put c).before).args.a = c.row_bounds.ensures.0 ∙ taken _ _ _ (start (cols-put c).before).requires.1 in
-    let r = c in
-    let k = cols-put r in
+    let k = cols-put c in
     let t = (start k.before).args.t in
     both (are (ap₂ (λ (x y : ℕ). sizes_code x y (col_sizes t)) (total k.before) (limit k.before)) k.put-sizes.ensures.0)
-    (are (ap₂ (λ (x y : ℕ). sizes_code x y (row_sizes t)) (total_down) (limit_down r)) c.put_sizes.ensures.0)
+    (are (ap₂ (λ (x y : ℕ). sizes_code x y (row_sizes t)) (total_down) (limit_down c)) c.put_sizes.ensures.0)

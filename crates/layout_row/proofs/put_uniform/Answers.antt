@@ -23,33 +23,30 @@ returns-then-max-le1 c =
 
 pub overflow_sub-m : goal.overflow_sub-m
 overflow_sub-m c =
-    let lengths : Lengths c.args.max c.bit_length-l.result c.power.result = let s = c in
-    let is = length_is s.args.max (omega (arith, c.if-max-le1.false)) (omega (arith, s.requires.1)) in
+    let lengths : Lengths c.args.max c.bit_length-l.result c.power.result = let is = length_is c.args.max (omega (arith, c.if-max-le1.false)) (omega (arith, c.requires.1)) in
     let l = c.bit_length-l.ensures in
-    let few = pow_lt_only (bit_length s.args.max - 1) 11 (lt_of_le_of_lt is.3 (omega (arith, s.requires.1))) in
-    let low : c.bit_length-l.result % 32 ≡ bit_length s.args.max = omega (arith, l, is.1) in
+    let few = pow_lt_only (bit_length c.args.max - 1) 11 (lt_of_le_of_lt is.3 (omega (arith, c.requires.1))) in
+    let low : c.bit_length-l.result % 32 ≡ bit_length c.args.max = omega (arith, l, is.1) in
     let p = c.power.ensures.0 ∙ ap (λ (n : ℕ). 2 ^ n) low in
     record { is = l; some = omega (arith, l, is.0); most = omega (arith, l, few); whole = p; over = rw p is.2 } in
     omega (arith, (lengths).over)
 
 pub overflow_sub-l : goal.overflow_sub-l
 overflow_sub-l c =
-    let lengths : Lengths c.args.max c.bit_length-l.result c.power.result = let s = c in
-    let is = length_is s.args.max (omega (arith, c.if-max-le1.false)) (omega (arith, s.requires.1)) in
+    let lengths : Lengths c.args.max c.bit_length-l.result c.power.result = let is = length_is c.args.max (omega (arith, c.if-max-le1.false)) (omega (arith, c.requires.1)) in
     let l = c.bit_length-l.ensures in
-    let few = pow_lt_only (bit_length s.args.max - 1) 11 (lt_of_le_of_lt is.3 (omega (arith, s.requires.1))) in
-    let low : c.bit_length-l.result % 32 ≡ bit_length s.args.max = omega (arith, l, is.1) in
+    let few = pow_lt_only (bit_length c.args.max - 1) 11 (lt_of_le_of_lt is.3 (omega (arith, c.requires.1))) in
+    let low : c.bit_length-l.result % 32 ≡ bit_length c.args.max = omega (arith, l, is.1) in
     let p = c.power.ensures.0 ∙ ap (λ (n : ℕ). 2 ^ n) low in
     record { is = l; some = omega (arith, l, is.0); most = omega (arith, l, few); whole = p; over = rw p is.2 } in
     omega (arith, (lengths).some)
 
 pub put_bits-requires : goal.put_bits-requires
 put_bits-requires c =
-    let lengths : Lengths c.args.max c.bit_length-l.result c.power.result = let s = c in
-    let is = length_is s.args.max (omega (arith, c.if-max-le1.false)) (omega (arith, s.requires.1)) in
+    let lengths : Lengths c.args.max c.bit_length-l.result c.power.result = let is = length_is c.args.max (omega (arith, c.if-max-le1.false)) (omega (arith, c.requires.1)) in
     let l = c.bit_length-l.ensures in
-    let few = pow_lt_only (bit_length s.args.max - 1) 11 (lt_of_le_of_lt is.3 (omega (arith, s.requires.1))) in
-    let low : c.bit_length-l.result % 32 ≡ bit_length s.args.max = omega (arith, l, is.1) in
+    let few = pow_lt_only (bit_length c.args.max - 1) 11 (lt_of_le_of_lt is.3 (omega (arith, c.requires.1))) in
+    let low : c.bit_length-l.result % 32 ≡ bit_length c.args.max = omega (arith, l, is.1) in
     let p = c.power.ensures.0 ∙ ap (λ (n : ℕ). 2 ^ n) low in
     record { is = l; some = omega (arith, l, is.0); most = omega (arith, l, few); whole = p; over = rw p is.2 } in
     let k = lengths in
@@ -57,34 +54,29 @@ put_bits-requires c =
 
 pub returns-then-v-m : goal.returns-then-v-m
 returns-then-v-m c =
-    let lengths : Lengths c.args.max c.bit_length-l.result c.power.result = let s = c in
-    let is = length_is s.args.max (omega (arith, c.if-max-le1.false)) (omega (arith, s.requires.1)) in
+    let lengths : Lengths c.args.max c.bit_length-l.result c.power.result = let is = length_is c.args.max (omega (arith, c.if-max-le1.false)) (omega (arith, c.requires.1)) in
     let l = c.bit_length-l.ensures in
-    let few = pow_lt_only (bit_length s.args.max - 1) 11 (lt_of_le_of_lt is.3 (omega (arith, s.requires.1))) in
-    let low : c.bit_length-l.result % 32 ≡ bit_length s.args.max = omega (arith, l, is.1) in
+    let few = pow_lt_only (bit_length c.args.max - 1) 11 (lt_of_le_of_lt is.3 (omega (arith, c.requires.1))) in
+    let low : c.bit_length-l.result % 32 ≡ bit_length c.args.max = omega (arith, l, is.1) in
     let p = c.power.ensures.0 ∙ ap (λ (n : ℕ). 2 ^ n) low in
     record { is = l; some = omega (arith, l, is.0); most = omega (arith, l, few); whole = p; over = rw p is.2 } in
-    let t = c in
     let k = lengths in
-    let e = t in
-    let a = e.args in
+    let a = c.args in
     let r = c.put_bits.ensures in (
-      rw (code_short a.max a.v e.if-max-le1.false (rw k.whole at t.if-v-m.true)) (rw k.is at r),
-      omega (arith, r.ends, length_bits (t.bit_length-l.result - 1) a.v, k.most),
+      rw (code_short a.max a.v c.if-max-le1.false (rw k.whole at c.if-v-m.true)) (rw k.is at r),
+      omega (arith, r.ends, length_bits (c.bit_length-l.result - 1) a.v, k.most),
     )
 
 pub overflow_add-v : goal.overflow_add-v
 overflow_add-v c =
-    let p = c in
-    omega (arith, p.power.ensures.2, p.requires.2)
+    omega (arith, c.power.ensures.2, c.requires.2)
 
 pub put_bits-requires-2 : goal.put_bits-requires-2
 put_bits-requires-2 c =
-    let lengths : Lengths c.args.max c.bit_length-l.result c.power.result = let s = c in
-    let is = length_is s.args.max (omega (arith, c.if-max-le1.false)) (omega (arith, s.requires.1)) in
+    let lengths : Lengths c.args.max c.bit_length-l.result c.power.result = let is = length_is c.args.max (omega (arith, c.if-max-le1.false)) (omega (arith, c.requires.1)) in
     let l = c.bit_length-l.ensures in
-    let few = pow_lt_only (bit_length s.args.max - 1) 11 (lt_of_le_of_lt is.3 (omega (arith, s.requires.1))) in
-    let low : c.bit_length-l.result % 32 ≡ bit_length s.args.max = omega (arith, l, is.1) in
+    let few = pow_lt_only (bit_length c.args.max - 1) 11 (lt_of_le_of_lt is.3 (omega (arith, c.requires.1))) in
+    let low : c.bit_length-l.result % 32 ≡ bit_length c.args.max = omega (arith, l, is.1) in
     let p = c.power.ensures.0 ∙ ap (λ (n : ℕ). 2 ^ n) low in
     record { is = l; some = omega (arith, l, is.0); most = omega (arith, l, few); whole = p; over = rw p is.2 } in
     let k = lengths in
@@ -92,18 +84,15 @@ put_bits-requires-2 c =
 
 pub returns : goal.returns
 returns c =
-    let lengths : Lengths c.args.max c.bit_length-l.result c.power.result = let s = c in
-    let is = length_is s.args.max (omega (arith, c.if-max-le1.false)) (omega (arith, s.requires.1)) in
+    let lengths : Lengths c.args.max c.bit_length-l.result c.power.result = let is = length_is c.args.max (omega (arith, c.if-max-le1.false)) (omega (arith, c.requires.1)) in
     let l = c.bit_length-l.ensures in
-    let few = pow_lt_only (bit_length s.args.max - 1) 11 (lt_of_le_of_lt is.3 (omega (arith, s.requires.1))) in
-    let low : c.bit_length-l.result % 32 ≡ bit_length s.args.max = omega (arith, l, is.1) in
+    let few = pow_lt_only (bit_length c.args.max - 1) 11 (lt_of_le_of_lt is.3 (omega (arith, c.requires.1))) in
+    let low : c.bit_length-l.result % 32 ≡ bit_length c.args.max = omega (arith, l, is.1) in
     let p = c.power.ensures.0 ∙ ap (λ (n : ℕ). 2 ^ n) low in
     record { is = l; some = omega (arith, l, is.0); most = omega (arith, l, few); whole = p; over = rw p is.2 } in
-    let t = c in
     let k = lengths in
-    let e = t in
-    let a = e.args in
+    let a = c.args in
     let r = c.put_bits-2.ensures in (
-      rw (code_later a.max a.v e.if-max-le1.false (rw k.whole at t.if-v-m.false)) (rw (k.is, k.whole) at r),
-      omega (arith, r.ends, length_bits t.bit_length-l.result (a.v + (t.power.result - a.max)), k.most),
+      rw (code_later a.max a.v c.if-max-le1.false (rw k.whole at c.if-v-m.false)) (rw (k.is, k.whole) at r),
+      omega (arith, r.ends, length_bits c.bit_length-l.result (a.v + (c.power.result - a.max)), k.most),
     )

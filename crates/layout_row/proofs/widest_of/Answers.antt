@@ -8,8 +8,7 @@ loop-i-init c = widest_start _ _ c.none-most.ensures
 
 pub loop-i-preserved : goal.loop-i-preserved
 loop-i-preserved c =
-    let k = c in
-    widest_next _ _ k.loop-i.invariant k.loop-i-test.true (c.most-most.ensures ∙ ap (max k.loop-i.most.0) c.size_at.ensures.0)
+    widest_next _ _ c.loop-i.invariant c.loop-i-test.true (c.most-most.ensures ∙ ap (max c.loop-i.most.0) c.size_at.ensures.0)
 
 pub returns : goal.returns
 returns c = widest_end _ _ c.loop-i.invariant c.loop-i-test.false

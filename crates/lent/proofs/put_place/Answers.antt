@@ -22,18 +22,15 @@ pair p e h k = cc
 
 pub returns-then-error-eq0 : goal.returns-then-error-eq0
 returns-then-error-eq0 c =
-    let k = c in
-    let a = k.args in
-    pair a.p a.error.now k.position_of.ensures (newly a.p.error a.error.now c.if-p.true c.if-error-eq0.true)
+    let a = c.args in
+    pair a.p a.error.now c.position_of.ensures (newly a.p.error a.error.now c.if-p.true c.if-error-eq0.true)
 
 pub returns-else-error-eq0 : goal.returns-else-error-eq0
 returns-else-error-eq0 c =
-    let k = c in
-    let a = k.args in
-    pair a.p a.error.now k.position_of.ensures (set_stays a.p.error a.error.now c.if-error-eq0.false)
+    let a = c.args in
+    pair a.p a.error.now c.position_of.ensures (set_stays a.p.error a.error.now c.if-error-eq0.false)
 
 pub returns-else-p : goal.returns-else-p
 returns-else-p c =
-    let k = c in
-    let a = k.args in
-    pair a.p a.error.now k.position_of.ensures (rw c.if-p.false (none_stays a.error.now))
+    let a = c.args in
+    pair a.p a.error.now c.position_of.ensures (rw c.if-p.false (none_stays a.error.now))

@@ -6,8 +6,6 @@ use Rattle.lent.proofs.settle_place.Goals as goal
 
 pub returns : goal.returns
 returns c =
-    let r = c in
-    let p = r in
-    let a = p.args in
-    let here = as_read a.s.now p.place_of.result 0 (omega arith) r.read_bits-here.ensures ∙ read_none a.s.now p.place_of.result in
-    c.put_place.ensures ∙ ap (λ (n : Number). lent_place n.next a.error.now) (rw p.place_of.ensures at here)
+    let a = c.args in
+    let here = as_read a.s.now c.place_of.result 0 (omega arith) c.read_bits-here.ensures ∙ read_none a.s.now c.place_of.result in
+    c.put_place.ensures ∙ ap (λ (n : Number). lent_place n.next a.error.now) (rw c.place_of.ensures at here)

@@ -3,5 +3,4 @@ use Rattle.lent_tiles.proofs.frame_given.Goals as goal
 
 pub returns : goal.returns
 returns c =
-    let s = c in
-    rw (to_z-of_z s.ranges.width, to_z-of_z s.ranges.height, c.tile_info_of-tiling.ensures, c.frame_type_of-frame_type.ensures)
+    rw (to_z-of_z c.ranges.width, to_z-of_z c.ranges.height, c.tile_info_of-tiling.ensures, c.frame_type_of-frame_type.ensures)

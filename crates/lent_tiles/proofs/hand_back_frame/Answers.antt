@@ -46,10 +46,8 @@ returns-then-n-eq0 c =
     let d = k.hand-back-tiles.ensures in
     let same = t.frame-tiles.ensures in
     let r = a.r in
-    let error = a.error.now in (
-      stored r error a.sb128.now _ _ same d.0 c.if-n-eq0.true,
-      written r error a.sb128.now _ _ same d.0 d.1,
-    )
+    let error = a.error.now in
+    record { after_after = stored r error a.sb128.now _ _ same d.0 c.if-n-eq0.true; fact = written r error a.sb128.now _ _ same d.0 d.1 }
 
 pub returns-else-n-eq0 : goal.returns-else-n-eq0
 returns-else-n-eq0 c =
@@ -59,7 +57,5 @@ returns-else-n-eq0 c =
     let d = k.hand-back-tiles.ensures in
     let same = t.frame-tiles.ensures in
     let r = a.r in
-    let error = a.error.now in (
-      kept r error a.sb128.now _ _ same d.0 c.if-n-eq0.false,
-      written r error a.sb128.now _ _ same d.0 d.1,
-    )
+    let error = a.error.now in
+    record { after_after = kept r error a.sb128.now _ _ same d.0 c.if-n-eq0.false; fact = written r error a.sb128.now _ _ same d.0 d.1 }

@@ -16,26 +16,17 @@ start q = q.before.before.before.before.before.before
 
 pub returns-then-is_refusal : goal.returns-then-is_refusal
 returns-then-is_refusal c =
-    let i = c in
-    let q = i in
-    let s = start q in
+    let s = start c in
     let r = s.args.r in
-    let refused : is_refusal r.answer ≡ true = sym i.is_refusal.ensures ∙ c.if-is_refusal.true in (
-      pair (row r.answer r.next s.args.error.now c.number.ensures q.put_place.ensures)
-          (sym (taken (is_refusal r.answer) (given s) (put_layout r.info (given s)) refused)),
-      λ _ h. contrary refused h,
-    )
+    let refused : is_refusal r.answer ≡ true = sym c.is_refusal.ensures ∙ c.if-is_refusal.true in
+    record { after_after = pair (row r.answer r.next s.args.error.now c.number.ensures c.put_place.ensures)
+          (sym (taken (is_refusal r.answer) (given s) (put_layout r.info (given s)) refused)); fact = λ _ h. contrary refused h }
 
 pub returns : goal.returns
 returns c =
-    let t = c in
-    let e = t in
-    let q = e in
-    let s = start q in
+    let s = start c in
     let r = s.args.r in
-    let put = t.put_tile_info.ensures in
-    let fine : is_refusal r.answer ≡ false = sym e.is_refusal.ensures ∙ e.if-is_refusal.false in (
-      pair (row r.answer r.next s.args.error.now (accepted_0 r.answer fine) q.put_place.ensures)
-          (put.0 ∙ sym (left (is_refusal r.answer) (given s) (put_layout r.info (given s)) fine)),
-      λ room _. put.1 room,
-    )
+    let put = c.put_tile_info.ensures in
+    let fine : is_refusal r.answer ≡ false = sym c.is_refusal.ensures ∙ c.if-is_refusal.false in
+    record { after_after = pair (row r.answer r.next s.args.error.now (accepted_0 r.answer fine) c.put_place.ensures)
+          (put.0 ∙ sym (left (is_refusal r.answer) (given s) (put_layout r.info (given s)) fine)); fact = λ room _. put.1 room }

@@ -11,17 +11,15 @@ use Rattle.over.proofs.over_request.Goals as goal
 
 pub returns-then-s-lt269 : goal.returns-then-s-lt269
 returns-then-s-lt269 c =
-    let e = c in
-    let s = e.args.s.now in
+    let s = c.args.s.now in
     c.request_over.ensures
-    ∙ ap (λ (old : TileInfo). request_over old []) e.given_layout-old.ensures
+    ∙ ap (λ (old : TileInfo). request_over old []) c.given_layout-old.ensures
     ∙ ap (request_over (given_layout s)) (sym (drop_of_length-le s {i = 269} (omega arith)))
 
 pub returns : goal.returns
 returns c =
-    let e = c in
-    let s = e.args.s.now in
+    let s = c.args.s.now in
     let rest : take (length s - 269) (drop 269 s) ≡ drop 269 s = take_all (length s - 269) (drop 269 s) (simp length-drop (omega arith)) in
     c.request_over-2.ensures
-    ∙ ap (λ (old : TileInfo). request_over old (take (length s - 269) (drop 269 s))) e.given_layout-old.ensures
+    ∙ ap (λ (old : TileInfo). request_over old (take (length s - 269) (drop 269 s))) c.given_layout-old.ensures
     ∙ ap (request_over (given_layout s)) rest

@@ -7,11 +7,9 @@ use Rattle.over.proofs.over_text.Goals as goal
 pub returns-then-is_refusal : goal.returns-then-is_refusal
 unfolding over_text then
 returns-then-is_refusal c =
-    let t = c in
-    rw (← t.over_request-r.ensures, ← t.is_refusal.ensures, t.if-is_refusal.true, ← c.number.ensures) (stands (search rules) c.Put-refused.ensures)
+    rw (← c.over_request-r.ensures, ← c.is_refusal.ensures, c.if-is_refusal.true, ← c.number.ensures) (stands (search rules) c.Put-refused.ensures)
 
 pub returns : goal.returns
 unfolding over_text then
 returns c =
-    let e = c in
-    rw (← e.over_request-r.ensures, ← e.is_refusal.ensures, e.if-is_refusal.false, ← c.byte_at_lem.ensures) (stands (search rules) c.put_whole_layout.ensures)
+    rw (← c.over_request-r.ensures, ← c.is_refusal.ensures, c.if-is_refusal.false, ← c.byte_at.ensures) (stands (search rules) c.put_whole_layout.ensures)

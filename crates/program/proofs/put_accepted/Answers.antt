@@ -4,8 +4,8 @@ use Rattle.program.proofs.put_accepted.Goals as goal
 
 pub returns-then-uniform : goal.returns-then-uniform
 unfolding accepted_text word
-returns-then-uniform c = let l = c in rw l.if-uniform.true l.put_line.ensures
+returns-then-uniform c = rw c.if-uniform.true c.put_line.ensures
 
 pub returns : goal.returns
 unfolding accepted_text word
-returns c = let l = c in rw l.if-uniform.false l.put_line-2.ensures
+returns c = rw c.if-uniform.false c.put_line-2.ensures

@@ -6,6 +6,4 @@ use Rattle.program.proofs.put_ok.Goals as goal
 pub returns : goal.returns
 unfolding ok_text word
 returns c =
-    let l = c in
-    let p = l in
-    rw (flag p.args.next.error, ← p.position_of.ensures) l.put_line.ensures
+    rw (flag c.args.next.error, ← c.position_of.ensures) c.put_line.ensures

@@ -9,14 +9,9 @@ use Rattle.program.proofs.put_refusal.Goals as goal
 pub returns-then-n-eq4 : goal.returns-then-n-eq4
 unfolding refusal_text
 returns-then-n-eq4 c =
-    let l = c in
-    let t = l in
-    rw (eq-eqb t.args.n 4 t.if-n-eq4.true) (within (omega arith) l.Put-refused.ensures)
+    rw (eq-eqb c.args.n 4 c.if-n-eq4.true) (within (omega arith) c.Put-refused.ensures)
 
 pub returns : goal.returns
 unfolding refusal_text word
 returns c =
-    let l = c in
-    let p = l in
-    let e = p in
-    rw (ne_eqb e.args.n 4 e.if-n-eq4.false, flag e.args.next.error, ← p.position_of.ensures) l.put_line.ensures
+    rw (ne_eqb c.args.n 4 c.if-n-eq4.false, flag c.args.next.error, ← c.position_of.ensures) c.put_line.ensures

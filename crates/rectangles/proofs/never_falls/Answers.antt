@@ -9,12 +9,11 @@ use Rattle.rectangles.proofs.never_falls.Goals as goal
 
 pub loop-i-init : goal.loop-i-init
 unfolding rising
-loop-i-init c = (search rules, ap (λ (x : ℕ). leb x 1024) c.start_at_lem.ensures)
+loop-i-init c = (search rules, ap (λ (x : ℕ). leb x 1024) c.start_at-good.ensures)
 
 pub loop-i-preserved : goal.loop-i-preserved
 loop-i-preserved c =
-    let l = c in
-    (search rules, rising_more l.args.starts.now l.loop-i.i l.loop-i.invariant.1 c.start_at-start.ensures c.start_at-next.ensures)
+    (search rules, rising_more c.args.starts.now c.loop-i.i c.loop-i.invariant.1 c.start_at-start.ensures c.start_at-next.ensures)
 
 pub returns : goal.returns
 returns c =

@@ -20,7 +20,7 @@ tile s i =
 
 -- the buffer keeps its length, and has room for a tile more
 kept : (l : goal.At-loop-col invariant-loop decreases-loop) → length l.loop-col.out ≡ length l.args.out.now
-kept l = let s = l in ap length l.loop-col.invariant.1 ∙ length-sets s.args.out.now s.args.at (each l.loop-col.col (tile s))
+kept l = ap length l.loop-col.invariant.1 ∙ length-sets l.args.out.now l.args.at (each l.loop-col.col (tile l))
 
 room : (l : goal.At-loop-col invariant-loop decreases-loop) → l.loop-col.col < l.args.cols → l.args.at + 4 * l.loop-col.col + 4 ≤ length l.loop-col.out
 room l h = omega (arith, l.requires.0, kept l)
@@ -31,9 +31,8 @@ loop-col-init c = (omega arith, refl)
 
 pub span_of-across-requires : goal.span_of-across-requires
 span_of-across-requires c =
-    let s = c in
-    let w = steps s.args.starts.now s.args.cols c.loop-col.col s.requires.1 c.loop-col-test.true in
-    (w.rises, w.next, s.requires.3, omega (arith, c.loop-col-test.true, s.requires.2))
+    let w = steps c.args.starts.now c.args.cols c.loop-col.col c.requires.1 c.loop-col-test.true in
+    (w.rises, w.next, c.requires.3, omega (arith, c.loop-col-test.true, c.requires.2))
 
 pub overflow_mul-col : goal.overflow_mul-col
 overflow_mul-col c = omega (arith, room c c.loop-col-test.true)
@@ -46,11 +45,9 @@ put_rectangle-requires c = room c c.loop-col-test.true
 
 pub loop-col-preserved : goal.loop-col-preserved
 loop-col-preserved c =
-    let l = c in
-    let s = l in
     let across = c.Span-of.ensures in (
       omega arith,
-      store_more (tile s) 4 (λ _. refl) l.loop-col.col s.args.at _ s.args.out.now l.loop-col.out _ refl l.loop-col.invariant.1 (rw (across.0, across.1) at c.put_rectangle.ensures),
+      store_more (tile c) 4 (λ _. refl) c.loop-col.col c.args.at _ c.args.out.now c.loop-col.out _ refl c.loop-col.invariant.1 (rw (across.0, across.1) at c.put_rectangle.ensures),
     )
 
 pub shape_of-out : goal.shape_of-out
@@ -58,7 +55,5 @@ shape_of-out c = kept c
 
 pub returns : goal.returns
 returns c =
-    let l = c in
-    let s = l in
-    let e : l.loop-col.col ≡ s.args.cols = omega arith in
-    l.loop-col.invariant.1 ∙ ap (λ (n : ℕ). sets s.args.out.now s.args.at (each n (tile s))) e
+    let e : c.loop-col.col ≡ c.args.cols = omega arith in
+    c.loop-col.invariant.1 ∙ ap (λ (n : ℕ). sets c.args.out.now c.args.at (each n (tile c))) e

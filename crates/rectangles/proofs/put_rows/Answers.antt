@@ -46,21 +46,19 @@ loop-row-init c = (omega arith, refl)
 
 pub span_of-down-requires : goal.span_of-down-requires
 span_of-down-requires c =
-    let l = c in
-    let k = known (start l) in
-    let w = steps (start l).args.t.row_start_sb (start l).args.t.rows l.loop-row.row k.down c.loop-row-test.true in
-    (w.rises, w.next, l.side_of-side.ensures.1, omega (arith, c.loop-row-test.true, k.most_rows))
+    let k = known (start c) in
+    let w = steps (start c).args.t.row_start_sb (start c).args.t.rows c.loop-row.row k.down c.loop-row-test.true in
+    (w.rises, w.next, c.side_of-side.ensures.1, omega (arith, c.loop-row-test.true, k.most_rows))
 
 pub overflow_mul-cols : goal.overflow_mul-cols
 overflow_mul-cols c = omega (arith, (known (start c)).most_cols)
 
 pub overflow_mul-cols-in-loop-row : goal.overflow_mul-cols-in-loop-row
 overflow_mul-cols-in-loop-row c =
-    let l = c in
-    let k = known (start l) in
-    let cols : 4 * (start l).args.t.cols ≤ 256 = omega (arith, k.most_cols) in
-    let rows : l.loop-row.row ≤ 64 = omega (arith, c.loop-row-test.true, k.most_rows) in
-    let fit : 4 * (start l).args.t.cols * l.loop-row.row < 2 ^ 64 = omega (arith, mul-le-mul cols rows) in
+    let k = known (start c) in
+    let cols : 4 * (start c).args.t.cols ≤ 256 = omega (arith, k.most_cols) in
+    let rows : c.loop-row.row ≤ 64 = omega (arith, c.loop-row-test.true, k.most_rows) in
+    let fit : 4 * (start c).args.t.cols * c.loop-row.row < 2 ^ 64 = omega (arith, mul-le-mul cols rows) in
     record { fits = fit }
 
 pub slice_bounds-put_row-end : goal.slice_bounds-put_row-end
@@ -68,21 +66,18 @@ slice_bounds-put_row-end c = let s = start c in sym (cols_length s.args.t _ s.go
 
 pub put_row-requires : goal.put_row-requires
 put_row-requires c =
-    let l = c in
-    let k = known (start l) in
-    (room l c.loop-row-test.true, k.across, k.most_cols, l.side_of-side.ensures.1)
+    let k = known (start c) in
+    (room c c.loop-row-test.true, k.across, k.most_cols, c.side_of-side.ensures.1)
 
 pub overflow_add-row : goal.overflow_add-row
 overflow_add-row c =
-    let l = c in
-    omega (arith, c.loop-row-test.true, (known (start l)).most_rows)
+    omega (arith, c.loop-row-test.true, (known (start c)).most_rows)
 
 pub loop-row-preserved : goal.loop-row-preserved
 loop-row-preserved c =
-    let l = c in
     let down = c.Span-of.ensures in (
       omega arith,
-      store_more (tiles l) (4 * (start l).args.t.cols) (tiles_long l) l.loop-row.row 0 _ (start l).args.out.now l.loop-row.out _ (omega arith) l.loop-row.invariant.1 (rw (down.0, down.1) at c.put_row.ensures),
+      store_more (tiles c) (4 * (start c).args.t.cols) (tiles_long c) c.loop-row.row 0 _ (start c).args.out.now c.loop-row.out _ (omega arith) c.loop-row.invariant.1 (rw (down.0, down.1) at c.put_row.ensures),
     )
 
 pub shape_of-out : goal.shape_of-out
@@ -91,13 +86,12 @@ shape_of-out c = kept c
 pub returns : goal.returns
 unfolding rectangles
 returns c =
-    let l = c in
-    let a = (start l).args in
-    let e : l.loop-row.row ≡ a.t.rows = omega arith in
-    let all = each a.t.rows (tiles l) in
-    let long : length all ≡ rectangle_numbers a.t = each_length (tiles l) (4 * a.t.cols) (tiles_long l) a.t.rows ∙ mul_assoc 4 a.t.cols a.t.rows in
-    l.loop-row.invariant.1
-    ∙ ap (λ (n : ℕ). sets a.out.now 0 (each n (tiles l))) e
-    ∙ sets-eq all a.out.now 0 (omega (arith, long, (start l).requires.1))
+    let a = (start c).args in
+    let e : c.loop-row.row ≡ a.t.rows = omega arith in
+    let all = each a.t.rows (tiles c) in
+    let long : length all ≡ rectangle_numbers a.t = each_length (tiles c) (4 * a.t.cols) (tiles_long c) a.t.rows ∙ mul_assoc 4 a.t.cols a.t.rows in
+    c.loop-row.invariant.1
+    ∙ ap (λ (n : ℕ). sets a.out.now 0 (each n (tiles c))) e
+    ∙ sets-eq all a.out.now 0 (omega (arith, long, (start c).requires.1))
     ∙ ap (λ (n : ℕ). all ++ drop n a.out.now) (zero-add (length all) ∙ long)
-    ∙ ap (λ (side : ℕ). each a.t.rows (across a.t.col_start_sb a.t.row_start_sb side a.w a.h a.t.cols) ++ drop (rectangle_numbers a.t) a.out.now) l.side_of-side.ensures.0
+    ∙ ap (λ (side : ℕ). each a.t.rows (across a.t.col_start_sb a.t.row_start_sb side a.w a.h a.t.cols) ++ drop (rectangle_numbers a.t) a.out.now) c.side_of-side.ensures.0

@@ -7,8 +7,7 @@ use Rattle.rectangles.proofs.span_of.Goals as goal
 
 pub overflow_sub-result : goal.overflow_sub-result
 overflow_sub-result c =
-    let s = c in
-    omega (arith, edge_le (get_or s.args.starts.now s.args.i 0) (get_or s.args.starts.now (s.args.i + 1) 0) s.args.side s.args.most s.requires.0, c.edge_at-begin.ensures, c.edge_at-end.ensures)
+    omega (arith, edge_le (get_or c.args.starts.now c.args.i 0) (get_or c.args.starts.now (c.args.i + 1) 0) c.args.side c.args.most c.requires.0, c.edge_at-begin.ensures, c.edge_at-end.ensures)
 
 pub returns : goal.returns
 returns c = search rules

@@ -24,7 +24,8 @@ returns-then-not-has_rectangles c =
     let height : c.not_below_0-height.result ≡ unsigned c.args.h = c.not_below_0-height.ensures ∙ ap unsigned (to_z-of_z c.ranges.h) in
     let asked : let a = c.args in c.has_rectangles.result ≡ has_rectangles a.t a.sb128 (unsigned a.w) (unsigned a.h) = rw (← width, ← height) c.has_rectangles.ensures in
     let a = c.args in
-    promised a.t a.sb128 (unsigned a.w) (unsigned a.h) a.out.now (sym (left _ _ _ (sym (asked) ∙ not-true _ c.if-not-has_rectangles.true)))
+    let w = promised a.t a.sb128 (unsigned a.w) (unsigned a.h) a.out.now (sym (left _ _ _ (sym (asked) ∙ not-true _ c.if-not-has_rectangles.true))) in
+    record { out_after = w.0; tiles_written = w.1 }
 
 pub overflow_mul-t : goal.overflow_mul-t
 overflow_mul-t c =
@@ -50,8 +51,9 @@ returns-then-out-t c =
     let asked : let a = c.args in c.has_rectangles.result ≡ has_rectangles a.t a.sb128 (unsigned a.w) (unsigned a.h) = rw (← width, ← height) c.has_rectangles.ensures in
     let good : let a = c.args in has_rectangles a.t a.sb128 (unsigned a.w) (unsigned a.h) ≡ true = sym (asked) ∙ not-false _ c.if-not-has_rectangles.false in
     let a = c.args in
-    promised a.t a.sb128 (unsigned a.w) (unsigned a.h) a.out.now
-    (sym (taken _ _ _ (good) ∙ left _ _ _ (lt-leb (rectangle_numbers a.t) (length a.out.now) c.if-out-t.true)))
+    let w = promised a.t a.sb128 (unsigned a.w) (unsigned a.h) a.out.now
+    (sym (taken _ _ _ (good) ∙ left _ _ _ (lt-leb (rectangle_numbers a.t) (length a.out.now) c.if-out-t.true))) in
+    record { out_after = w.0; tiles_written = w.1 }
 
 pub put_rows-requires : goal.put_rows-requires
 put_rows-requires c =
@@ -59,7 +61,6 @@ put_rows-requires c =
     let height : c.not_below_0-height.result ≡ unsigned c.args.h = c.not_below_0-height.ensures ∙ ap unsigned (to_z-of_z c.ranges.h) in
     let asked : let a = c.args in c.has_rectangles.result ≡ has_rectangles a.t a.sb128 (unsigned a.w) (unsigned a.h) = rw (← width, ← height) c.has_rectangles.ensures in
     let good : let a = c.args in has_rectangles a.t a.sb128 (unsigned a.w) (unsigned a.h) ≡ true = sym (asked) ∙ not-false _ c.if-not-has_rectangles.false in
-    let k = c in
     (rw (width, height) (good), c.if-out-t.false)
 
 pub returns : goal.returns
@@ -69,8 +70,8 @@ returns c =
     let height : c.not_below_0-height.result ≡ unsigned c.args.h = c.not_below_0-height.ensures ∙ ap unsigned (to_z-of_z c.ranges.h) in
     let asked : let a = c.args in c.has_rectangles.result ≡ has_rectangles a.t a.sb128 (unsigned a.w) (unsigned a.h) = rw (← width, ← height) c.has_rectangles.ensures in
     let good : let a = c.args in has_rectangles a.t a.sb128 (unsigned a.w) (unsigned a.h) ≡ true = sym (asked) ∙ not-false _ c.if-not-has_rectangles.false in
-    let k = c in
-    let a = k.args in
-    promised a.t a.sb128 (unsigned a.w) (unsigned a.h) a.out.now
+    let a = c.args in
+    let w = promised a.t a.sb128 (unsigned a.w) (unsigned a.h) a.out.now
     (ap (λ (x : List ℕ). (Accepted, x)) (rw (width, height) at c.put_rows.ensures)
-    ∙ sym (taken _ _ _ (good) ∙ taken _ _ _ (le-leb (rectangle_numbers a.t) (length a.out.now) c.if-out-t.false)))
+    ∙ sym (taken _ _ _ (good) ∙ taken _ _ _ (le-leb (rectangle_numbers a.t) (length a.out.now) c.if-out-t.false))) in
+    record { out_after = w.0; tiles_written = w.1 }

@@ -32,12 +32,10 @@ returns-then-is_refusal c =
     let called : let a = c.args in (c.tile_rectangles-answer.result, c.tile_rectangles-answer.new.1.1.1.1.0) ≡ tile_rectangles a.t a.sb128 (unsigned a.w) (unsigned a.h) zeros = let f = c.ranges in rw (to_z-of_z f.w, to_z-of_z f.h) at c.tile_rectangles-answer.ensures.out_after in
     let asked : let a = c.args in c.is_refusal.result ≡ not (has_rectangles a.t a.sb128 (unsigned a.w) (unsigned a.h)) = let a = c.args in
     c.is_refusal.ensures ∙ ap (λ (z : Answer × List ℕ). is_refusal z.0) (called) ∙ refuses a.t a.sb128 (unsigned a.w) (unsigned a.h) zeros roomy in
-    let p = c in
-    let k = p in
-    let a = k.args in
-    let none = not-true _ (sym (asked) ∙ k.if-is_refusal.true) in
-    let four = p.number.ensures ∙ ap (λ (z : Answer × List ℕ). number_of z.0) (called ∙ refused a.t a.sb128 (unsigned a.w) (unsigned a.h) zeros none) in
-    rw (none, ← four) (within (omega arith) p.Put-refused.ensures)
+    let a = c.args in
+    let none = not-true _ (sym (asked) ∙ c.if-is_refusal.true) in
+    let four = c.number.ensures ∙ ap (λ (z : Answer × List ℕ). number_of z.0) (called ∙ refused a.t a.sb128 (unsigned a.w) (unsigned a.h) zeros none) in
+    rw (none, ← four) (within (omega arith) c.Put-refused.ensures)
 
 pub overflow_mul-tiles : goal.overflow_mul-tiles
 overflow_mul-tiles c =
@@ -45,8 +43,7 @@ overflow_mul-tiles c =
     let asked : let a = c.args in c.is_refusal.result ≡ not (has_rectangles a.t a.sb128 (unsigned a.w) (unsigned a.h)) = let a = c.args in
     c.is_refusal.ensures ∙ ap (λ (z : Answer × List ℕ). is_refusal z.0) (called) ∙ refuses a.t a.sb128 (unsigned a.w) (unsigned a.h) zeros roomy in
     let has : let a = c.args in has_rectangles a.t a.sb128 (unsigned a.w) (unsigned a.h) ≡ true = not-false _ (sym (asked) ∙ c.if-is_refusal.false) in
-    let k = c in
-    let a = k.args in
+    let a = c.args in
     omega (arith, tiles_le a.t a.sb128 (unsigned a.w) (unsigned a.h) (has))
 
 pub put_tiles-requires : goal.put_tiles-requires
@@ -57,8 +54,7 @@ put_tiles-requires c =
     let has : let a = c.args in has_rectangles a.t a.sb128 (unsigned a.w) (unsigned a.h) ≡ true = not-false _ (sym (asked) ∙ c.if-is_refusal.false) in
     let written : let a = c.args in c.tile_rectangles-answer.new.1.1.1.1.0 ≡ rectangles a.t a.sb128 (unsigned a.w) (unsigned a.h) ++ drop (rectangle_numbers a.t) zeros = let a = c.args in
     ap (λ (z : Answer × List ℕ). z.1) (called ∙ accepted a.t a.sb128 (unsigned a.w) (unsigned a.h) zeros roomy (has)) in
-    let k = c in
-    let a = k.args in
+    let a = c.args in
     omega (arith, ap length (written), length-append (rectangles a.t a.sb128 (unsigned a.w) (unsigned a.h)) (drop (rectangle_numbers a.t) zeros), long a.t a.sb128 (unsigned a.w) (unsigned a.h))
 
 pub returns : goal.returns
@@ -70,8 +66,5 @@ returns c =
     let has : let a = c.args in has_rectangles a.t a.sb128 (unsigned a.w) (unsigned a.h) ≡ true = not-false _ (sym (asked) ∙ c.if-is_refusal.false) in
     let written : let a = c.args in c.tile_rectangles-answer.new.1.1.1.1.0 ≡ rectangles a.t a.sb128 (unsigned a.w) (unsigned a.h) ++ drop (rectangle_numbers a.t) zeros = let a = c.args in
     ap (λ (z : Answer × List ℕ). z.1) (called ∙ accepted a.t a.sb128 (unsigned a.w) (unsigned a.h) zeros roomy (has)) in
-    let p = c in
-    let l = p in
-    let k = l in
-    let a = k.args in
-    rw (has, ← lines_of a.t a.sb128 (unsigned a.w) (unsigned a.h) _ _ (written)) (within (omega (arith, tiles_le a.t a.sb128 (unsigned a.w) (unsigned a.h) (has))) (also l.put_line-first.ensures p.put_tiles.ensures))
+    let a = c.args in
+    rw (has, ← lines_of a.t a.sb128 (unsigned a.w) (unsigned a.h) _ _ (written)) (within (omega (arith, tiles_le a.t a.sb128 (unsigned a.w) (unsigned a.h) (has))) (also c.put_line-first.ensures c.put_tiles.ensures))

@@ -7,18 +7,14 @@ use Rattle.rects.proofs.put_rest.Goals as goal
 pub returns-then-first-eq0 : goal.returns-then-first-eq0
 unfolding chosen_text
 returns-then-first-eq0 c =
-    let p = c in
-    rw p.if-first-eq0.true p.put_tile_rects.ensures
+    rw c.if-first-eq0.true c.put_tile_rects.ensures
 
 pub returns-then-first-eq1 : goal.returns-then-first-eq1
 unfolding chosen_text
 returns-then-first-eq1 c =
-    let p = c in
-    rw p.if-first-eq1.true p.put_frame_rects.ensures
+    rw c.if-first-eq1.true c.put_frame_rects.ensures
 
 pub returns : goal.returns
 unfolding chosen_text
 returns c =
-    let p = c in
-    let t = p in
-    rw (ne_eqb _ _ t.if-first-eq0.false, ne_eqb _ _ t.if-first-eq1.false) (within (omega arith) p.Put-refused.ensures)
+    rw (ne_eqb _ _ c.if-first-eq0.false, ne_eqb _ _ c.if-first-eq1.false) (within (omega arith) c.Put-refused.ensures)

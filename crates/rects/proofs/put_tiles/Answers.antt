@@ -25,14 +25,12 @@ put_tile-next-requires c = room c c.loop-k-test.true
 
 pub loop-k-preserved : goal.loop-k-preserved
 loop-k-preserved c =
-    let l = c in
-    (search rules, rw (← each_more (λ i. line (row (take 4 (drop (4 * i) l.args.xs.now)))) l.loop-k.k) (within (omega arith) (also l.loop-k.invariant.1 c.put_tile-next.ensures)))
+    (search rules, rw (← each_more (λ i. line (row (take 4 (drop (4 * i) c.args.xs.now)))) c.loop-k.k) (within (omega arith) (also c.loop-k.invariant.1 c.put_tile-next.ensures)))
 
 pub shape_of-out : goal.shape_of-out
 shape_of-out c = kept c.loop-k.invariant.1
 
 pub returns : goal.returns
 returns c =
-    let l = c in
-    let e : l.loop-k.k ≡ l.args.n = omega arith in
-    rw (← e) l.loop-k.invariant.1
+    let e : c.loop-k.k ≡ c.args.n = omega arith in
+    rw (← e) c.loop-k.invariant.1

@@ -17,7 +17,6 @@ returns-then-input-eq0 c = rw c.if-input-eq0.true (stands (search rules) c.Put-r
 pub returns : goal.returns
 unfolding rects_text either_text
 returns c =
-    let e = c in
-    let s = e.args.input.now in
+    let s = c.args.input.now in
     let rest : take (length s - 1) (drop 1 s) ≡ drop 1 s = take_all (length s - 1) (drop 1 s) (simp length-drop (omega arith)) in
-    rw (ne_eqb _ _ e.if-input-eq0.false, ← rest) (stands (search rules) c.put_rest.ensures)
+    rw (ne_eqb _ _ c.if-input-eq0.false, ← rest) (stands (search rules) c.put_rest.ensures)

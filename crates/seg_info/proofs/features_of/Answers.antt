@@ -67,8 +67,7 @@ returns-then-bits-lt4096 c = λ s p n seg e room. unset s p c.args.bits e room n
 
 pub returns : goal.returns
 returns c =
-    let t = c in
-    let back : to_z w32 (of_z w32 t.ten_bits.result) ≡ t.ten_bits.result = search rules in
+    let back : to_z w32 (of_z w32 c.ten_bits.result) ≡ c.ten_bits.result = search rules in
     let d = c.clamp.ensures in
     λ s p n seg e room.
-    rw (to_z-of_z {w = w16} (record { sfits = c.clamp.type_inv }), d, back, t.ten_bits.ensures) (set s p t.args.bits e room n seg t.if-bits-lt4096.false)
+    rw (to_z-of_z {w = w16} (record { sfits = c.clamp.type_inv }), d, back, c.ten_bits.ensures) (set s p c.args.bits e room n seg c.if-bits-lt4096.false)

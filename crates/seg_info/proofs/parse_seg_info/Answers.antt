@@ -7,7 +7,5 @@ use Rattle.seg_info.proofs.parse_seg_info.Goals as goal
 pub returns : goal.returns
 unfolding parse_seg_info
 returns c =
-    let r = c in
-    let n = r in
-    let a = n.args in
-    r.read_segments-r.ensures ∙ ap (λ (m : ℕ). turns m (segment a.s.now) (record { seg = a.seg; next = a.p })) n.segments.ensures.0
+    let a = c.args in
+    c.read_segments-r.ensures ∙ ap (λ (m : ℕ). turns m (segment a.s.now) (record { seg = a.seg; next = a.p })) c.segments.ensures.0

@@ -10,14 +10,8 @@ back s = search rules
 
 pub returns-then-f : goal.returns-then-f
 returns-then-f c =
-    let m3 = c in
-    let m2 = m3 in
-    let m1 = m2 in
-    simp (c.if-f.true, back m1, m1.mark.ensures, m2.mark-2.ensures, m3.mark-3.ensures)
+    simp (c.if-f.true, back c, c.mark.ensures, c.mark-2.ensures, c.mark-3.ensures)
 
 pub returns : goal.returns
 returns c =
-    let m3 = c in
-    let m2 = m3 in
-    let m1 = m2 in
-    simp (c.if-f.false, m1.mark.ensures, m2.mark-2.ensures, m3.mark-3.ensures)
+    simp (c.if-f.false, c.mark.ensures, c.mark-2.ensures, c.mark-3.ensures)

@@ -13,13 +13,8 @@ back d = search rules
 
 pub returns : goal.returns
 returns c =
-    let k = c in
-    let g = k in
-    let skip = g in
-    let d = skip in
-    let f = d in
-    let a = f.args in
-    ap (λ (x : SegmentationDataSet). record { seg = x; next = g.get_flag-globalmv.result.next }) k.put-masks.ensures
-    ∙ rw (back d)
-    (sym (from_readings a.s.now a.n (lent_seg a.delta_q.now a.r.masks) a.r.next f.get_flag-changed.result d.delta_if-delta.result skip.get_flag-skip.result g.get_flag-globalmv.result
-    f.get_flag-changed.ensures d.delta_if-delta.ensures skip.get_flag-skip.ensures g.get_flag-globalmv.ensures))
+    let a = c.args in
+    ap (λ (x : SegmentationDataSet). record { seg = x; next = c.get_flag-globalmv.result.next }) c.put-masks.ensures
+    ∙ rw (back c)
+    (sym (from_readings a.s.now a.n (lent_seg a.delta_q.now a.r.masks) a.r.next c.get_flag-changed.result c.delta_if-delta.result c.get_flag-skip.result c.get_flag-globalmv.result
+    c.get_flag-changed.ensures c.delta_if-delta.ensures c.get_flag-skip.ensures c.get_flag-globalmv.ensures))

@@ -13,13 +13,12 @@ use Rattle.seg_info.specs.declared.SegRead.{SegRead}
 use Rattle.seg_info.proofs.read_segments.Goals as goal
 
 -- both questions, where they hold
-two_left : (c : goal.Then-i-n invariant-loop decreases-loop) → let l = c in let a = l.args in
-    (l.loop-i.i + 2 ≤ a.n) × (position a.s.now l.loop-i.a.next + 56 ≤ bit_count a.s.now)
+two_left : (c : goal.Then-i-n invariant-loop decreases-loop) → let a = c.args in
+    (c.loop-i.i + 2 ≤ a.n) × (position a.s.now c.loop-i.a.next + 56 ≤ bit_count a.s.now)
 two_left c =
-    let l = c in
-    let a = l.args in
-    let t = both (leb (l.loop-i.i + 2) a.n) c.more_than.result c.if-i-n.true in
-    (leb-true (l.loop-i.i + 2) a.n t.0, more_there a.s.now l.loop-i.a.next 56 c.more_than.ensures t.1)
+    let a = c.args in
+    let t = both (leb (c.loop-i.i + 2) a.n) c.more_than.result c.if-i-n.true in
+    (leb-true (c.loop-i.i + 2) a.n t.0, more_there a.s.now c.loop-i.a.next 56 c.more_than.ensures t.1)
 
 -- two turns more
 two_more : (n : ℕ) (f : ℕ → SegRead → SegRead) (a : SegRead) → turns (n + 2) f a ≡ f (n + 1) (f n (turns n f a))
@@ -34,49 +33,41 @@ loop-i-init c = (omega arith, c.requires.1, refl)
 pub two_segments-a-requires : goal.two_segments-a-requires
 two_segments-a-requires c =
     let t = two_left c in
-    let l = c in
-    (omega (arith, t.0, l.requires.0), l.loop-i.invariant.1, omega (arith, t.1))
+    (omega (arith, t.0, c.requires.0), c.loop-i.invariant.1, omega (arith, t.1))
 
 pub overflow_add-i-then-i-n : goal.overflow_add-i-then-i-n
-overflow_add-i-then-i-n c = let t = c in omega (arith, (two_left t).0, t.requires.0)
+overflow_add-i-then-i-n c = omega (arith, (two_left c).0, c.requires.0)
 
 pub loop-i-smaller-then-i-n : goal.loop-i-smaller-then-i-n
 loop-i-smaller-then-i-n c = omega (arith, (two_left c).0)
 
 pub loop-i-preserved-then-i-n : goal.loop-i-preserved-then-i-n
 loop-i-preserved-then-i-n c =
-    let r = c in
-    let t = r in
-    let l = t in
-    let f = segment l.args.s.now in
-    let i = l.loop-i.i in (
-      (two_left t).0,
-      omega (arith, l.loop-i.invariant.1),
-      r.two_segments-a.ensures ∙ ap (λ (x : SegRead). f (i + 1) (f i x)) l.loop-i.invariant.2 ∙ sym (two_more i f _),
+    let f = segment c.args.s.now in
+    let i = c.loop-i.i in (
+      (two_left c).0,
+      omega (arith, c.loop-i.invariant.1),
+      c.two_segments-a.ensures ∙ ap (λ (x : SegRead). f (i + 1) (f i x)) c.loop-i.invariant.2 ∙ sym (two_more i f _),
     )
 
 pub read_segment-a-requires : goal.read_segment-a-requires
 read_segment-a-requires c =
-    let l = c in
-    (omega (arith, l.requires.0), l.loop-i.invariant.1)
+    (omega (arith, c.requires.0), c.loop-i.invariant.1)
 
 pub loop-i-preserved : goal.loop-i-preserved
 loop-i-preserved c =
-    let r = c in
-    let l = r in
-    let f = segment l.args.s.now in
-    let i = l.loop-i.i in (
+    let f = segment c.args.s.now in
+    let i = c.loop-i.i in (
       omega arith,
-      omega (arith, l.loop-i.invariant.1),
-      r.read_segment-a.ensures ∙ ap (f i) l.loop-i.invariant.2 ∙ sym (turns_more i f _),
+      omega (arith, c.loop-i.invariant.1),
+      c.read_segment-a.ensures ∙ ap (f i) c.loop-i.invariant.2 ∙ sym (turns_more i f _),
     )
 
 pub returns : goal.returns
 returns c =
-    let l = c in
-    let a = l.args in
-    let e : l.loop-i.i ≡ a.n = omega arith in
-    l.loop-i.invariant.2 ∙ ap (λ (m : ℕ). turns m (segment a.s.now) (lent_read a.delta_q.now a.r)) e
+    let a = c.args in
+    let e : c.loop-i.i ≡ a.n = omega arith in
+    c.loop-i.invariant.2 ∙ ap (λ (m : ℕ). turns m (segment a.s.now) (lent_read a.delta_q.now a.r)) e
 
 pub loop-i-smaller : goal.loop-i-smaller
 loop-i-smaller c = omega arith

@@ -33,17 +33,9 @@ two s p q n w u v a b seg seg1 seg2 room e fa fb eu ev e1 e2 eq =
 
 pub returns : goal.returns
 returns c =
-    let sb2 = c in
-    let p2 = sb2 in
-    let f2 = p2 in
-    let sb = f2 in
-    let p1 = sb in
-    let f1 = p1 in
-    let l = f1 in
-    let st = l in
-    let a = st.args in
-    two a.s.now a.r.next c.skip-next.result a.n l.look_ahead-word.result sb.segment_bits-used.result sb2.segment_bits.result
-    f1.features_of-a.result f2.features_of-b.result
+    let a = c.args in
+    two a.s.now a.r.next c.skip-next.result a.n c.look_ahead-word.result c.segment_bits-used.result c.segment_bits.result
+    c.features_of-a.result c.features_of-b.result
     (lent_seg a.delta_q.now a.r.masks) _ _
-    st.requires.2 (look_bits a.s.now a.r.next 32 (omega arith) l.look_ahead-word.ensures) f1.features_of-a.ensures f2.features_of-b.ensures
-    sb.segment_bits-used.ensures sb2.segment_bits.ensures p1.put-first.ensures p2.put-masks.ensures c.skip-next.ensures
+    c.requires.2 (look_bits a.s.now a.r.next 32 (omega arith) c.look_ahead-word.ensures) c.features_of-a.ensures c.features_of-b.ensures
+    c.segment_bits-used.ensures c.segment_bits.ensures c.put-first.ensures c.put-masks.ensures c.skip-next.ensures

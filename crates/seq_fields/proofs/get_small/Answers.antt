@@ -9,4 +9,4 @@ pub returns : goal.returns
 unfolding get_small
 returns c =
     let r = c.read_bits-r in
-    (sym (through _ _ r.ensures), omega (arith, bits_below _ _ _ r.ensures))
+    record { is = sym (through _ _ r.ensures); below = omega (arith, bits_below _ _ _ r.ensures) }

@@ -5,8 +5,10 @@ use Rattle.seq_fields.proofs.small_if.Goals as goal
 
 pub returns-then-cond : goal.returns-then-cond
 unfolding small_if
-returns-then-cond c = (rw c.if-cond.true c.get_small.ensures.is, c.get_small.ensures.below)
+returns-then-cond c =
+    record { is = rw c.if-cond.true c.get_small.ensures.is; below = c.get_small.ensures.below }
 
 pub returns-else-cond : goal.returns-else-cond
 unfolding small_if
-returns-else-cond c = (rw c.if-cond.false refl, pow_pos _)
+returns-else-cond c =
+    record { is = rw c.if-cond.false refl; below = pow_pos _ }

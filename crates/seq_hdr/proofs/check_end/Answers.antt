@@ -13,23 +13,17 @@ returns-then-not-strict c = λ hdr. left _ _ _ c.if-p.false ∙ taken _ _ _ c.if
 pub returns-then-next-one : goal.returns-then-next-one
 unfolding check_trailing_bits
 returns-then-next-one c =
-    let c2 = c in
-    let c3 = c2 in
-    let k = c3 in
-    λ hdr. left _ _ _ k.if-p.false
-    ∙ left _ _ _ k.if-not-strict.false
-    ∙ through _ _ c3.get_flag-extension.ensures
-    ∙ through _ _ c2.get_flag-one.ensures
+    λ hdr. left _ _ _ c.if-p.false
+    ∙ left _ _ _ c.if-not-strict.false
+    ∙ through _ _ c.get_flag-extension.ensures
+    ∙ through _ _ c.get_flag-one.ensures
     ∙ taken _ _ _ c.if-next-one.true
 
 pub returns : goal.returns
 unfolding check_trailing_bits
 returns c =
-    let c2 = c in
-    let c3 = c2 in
-    let k = c3 in
-    λ hdr. left _ _ _ k.if-p.false
-    ∙ left _ _ _ k.if-not-strict.false
-    ∙ through _ _ c3.get_flag-extension.ensures
-    ∙ through _ _ c2.get_flag-one.ensures
+    λ hdr. left _ _ _ c.if-p.false
+    ∙ left _ _ _ c.if-not-strict.false
+    ∙ through _ _ c.get_flag-extension.ensures
+    ∙ through _ _ c.get_flag-one.ensures
     ∙ left _ _ _ c.if-next-one.false

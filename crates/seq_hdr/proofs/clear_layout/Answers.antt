@@ -5,9 +5,5 @@ use Rattle.seq_hdr.proofs.clear_layout.Goals as goal
 
 pub returns : goal.returns
 returns c =
-    let z = c in
-    let y = z in
-    let x = y in
-    let s = x in
-    let a = s.args in
-    put_over no_tile_info (buffers a.info.now a.cols.now a.rows.now) s.requires x.put_layout_bytes.ensures y.clear_starts.ensures z.clear_starts-2.ensures
+    let a = c.args in
+    put_over no_tile_info (buffers a.info.now a.cols.now a.rows.now) c.requires c.put_layout_bytes.ensures c.clear_starts.ensures c.clear_starts-2.ensures

@@ -25,9 +25,9 @@ promised h e =
 
 pub returns-then-is_refusal : goal.returns-then-is_refusal
 returns-then-is_refusal c =
-    let h = c in
-    let a = (start h).args in
-    promised h (head_ends a.s.now a.p a.strict h.read_head-head.ensures.is (sym h.is_refusal.ensures ∙ c.if-is_refusal.true))
+    let a = (start c).args in
+    let w = promised c (head_ends a.s.now a.p a.strict c.read_head-head.ensures.is (sym c.is_refusal.ensures ∙ c.if-is_refusal.true)) in
+    record { value = w.0; header_layout = w.1 }
 
 pub read_rest-rest-requires : goal.read_rest-rest-requires
 unfolding put_layout
@@ -37,28 +37,25 @@ pub returns-then-is_refusal-2 : goal.returns-then-is_refusal-2
 returns-then-is_refusal-2 c =
     let to_rest : let a = (start c).args in parse_seq_hdr a.s.now a.p a.strict ≡ rest_of a.strict a.s.now c.read_head-head.result = let a = (start c).args in
     head_goes_on a.s.now a.p a.strict c.read_head-head.ensures.is (sym c.is_refusal.ensures ∙ c.if-is_refusal.false) in
-    let k = c in
-    let n = k in
-    let w = k.read_rest-rest in
-    promised n (to_rest ∙ w.ensures.0 n.read_head-head.result.hdr ∙ taken _ _ _ (sym k.is_refusal-2.ensures ∙ c.if-is_refusal-2.true) ∙ sym c.refuse_header.ensures)
+    let w = c.read_rest-rest in
+    let w = promised c (to_rest ∙ w.ensures.0 c.read_head-head.result.hdr ∙ taken _ _ _ (sym c.is_refusal-2.ensures ∙ c.if-is_refusal-2.true) ∙ sym c.refuse_header.ensures) in
+    record { value = w.0; header_layout = w.1 }
 
 pub returns : goal.returns
 returns c =
     let to_rest : let a = (start c).args in parse_seq_hdr a.s.now a.p a.strict ≡ rest_of a.strict a.s.now c.read_head-head.result = let a = (start c).args in
     head_goes_on a.s.now a.p a.strict c.read_head-head.ensures.is (sym c.is_refusal.ensures ∙ c.if-is_refusal.false) in
-    let i = c in
-    let k = i in
-    let n = k in
-    let a = (start n).args in
-    let x = n.read_head-head.result in
-    let w = k.read_rest-rest in
+    let a = (start c).args in
+    let x = c.read_head-head.result in
+    let w = c.read_rest-rest in
     let y = w.result in
     let t = (read_tiling x.hdr.blocks.partition.sb128 x.hdr.picture.size x.hdr.level a.s.now x.next).fields.t in
-    let fine = sym k.is_refusal-2.ensures ∙ i.if-is_refusal-2.false in
-    let same = i.tile_info_of-t.ensures ∙ came_back t _ _ refl (w.ensures.1 ∙ left _ _ _ fine) k.cols-2-1.given k.rows-2-1.given in
-    promised n
+    let fine = sym c.is_refusal-2.ensures ∙ c.if-is_refusal-2.false in
+    let same = c.tile_info_of-t.ensures ∙ came_back t _ _ refl (w.ensures.1 ∙ left _ _ _ fine) c.cols-2-1.given c.rows-2-1.given in
+    let w = promised c
     (to_rest
     ∙ w.ensures.0 x.hdr
     ∙ left _ _ _ fine
     ∙ ap (λ (hdr : SequenceHeader). record { answer = y.answer; hdr = hdr; next = y.next })
-    (ap (λ (l : TileInfo). with_tiling x.hdr (record { present = y.present; t = l }) y.film_grain_present) (sym same) ∙ sym c.with_tiling-hdr.ensures))
+    (ap (λ (l : TileInfo). with_tiling x.hdr (record { present = y.present; t = l }) y.film_grain_present) (sym same) ∙ sym c.with_tiling-hdr.ensures)) in
+    record { value = w.0; header_layout = w.1 }

@@ -30,13 +30,12 @@ returns-then-above =
     let b = c.before.before.before.before.before in
     let p = b.before.before.before.before in
     let h = p.before.before.before.before.before in
-    and_then (and_then h.put-head.ensures p.put-picture.ensures (omega arith)) b.put-blocks.ensures (omega arith) in (
-      λ c.
+    and_then (and_then h.put-head.ensures p.put-picture.ensures (omega arith)) b.put-blocks.ensures (omega arith) in
+    record { is = λ c.
           let k = c.before.before in (
             sym (to-refs k ∙ taken _ _ _ (sym k.above.ensures ∙ c.before.if1.true) ∙ sym c.refuse-header.ensures),
             head_not_put InvalidSequenceHeader _ refl c.refuse-header.ensures (put_under (put-blocks k) (omega arith)),
-          ),
-      λ c.
+          ); numbers = λ c.
           let pf = c.before.before.before.before.before.before.before.before.before.before in
           let f = pf.before.before in
           let pr = f.before.before in
@@ -54,35 +53,28 @@ returns-then-above =
                 ∙ through _ _ f.read-filters.ensures
                 ∙ sym (simp c.no-tile-info.ensures)),
             record { stands = λ _. w; behind = put_under w (omega arith) },
-          ),
-    )
+          ) }
 
 pub shape_of-out-then-above : goal.shape_of-out-then-above
 shape_of-out-then-above c =
-    let b = c in
-    let p = b in
-    let h = p in
-    b.put_blocks.auto.0 ∙ p.put_picture.auto.0 ∙ h.put_head.auto.0
+    c.put_blocks.auto.0 ∙ c.put_picture.auto.0 ∙ c.put_head.auto.0
 
 pub shape_of-out : goal.shape_of-out
 shape_of-out c =
-    let f = c in
-    let r = f in
-    let i = r in
-    let m = i in
-    let b = m in
-    let p = b in
-    let h = p in
-    f.put_filters.auto.0
-    ∙ r.put_residual.auto.0
-    ∙ i.put_inter.auto.0
-    ∙ m.put_motion.auto.0
-    ∙ b.put_blocks.auto.0
-    ∙ p.put_picture.auto.0
-    ∙ h.put_head.auto.0
+    c.put_filters.auto.0
+    ∙ c.put_residual.auto.0
+    ∙ c.put_inter.auto.0
+    ∙ c.put_motion.auto.0
+    ∙ c.put_blocks.auto.0
+    ∙ c.put_picture.auto.0
+    ∙ c.put_head.auto.0
 
 pub returns-then-above : goal.returns-then-above
-returns-then-above = answers.0
+returns-then-above =
+    let w = answers.0 in
+    record { is = w.0; numbers = w.1 }
 
 pub returns : goal.returns
-returns = answers.1
+returns =
+    let w = answers.1 in
+    record { is = w.0; numbers = w.1 }

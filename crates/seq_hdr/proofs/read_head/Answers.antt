@@ -18,12 +18,11 @@ returns-then-unknown_profile =
     let to-depth : (c : goal.After-above-2) → read_head c.before.before.before.before.before.before.before.before.before.args.s.now c.before.before.before.before.before.before.before.before.before.args.p ≡ _ =
     λ c.
     let k = c.before.before in
-    to-layout k.before ∙ left _ _ _ (sym k.before.above.ensures ∙ k.if2.false) ∙ through _ _ c.before.read-format.ensures in (
-      λ c. (
+    to-layout k.before ∙ left _ _ _ (sym k.before.above.ensures ∙ k.if2.false) ∙ through _ _ c.before.read-format.ensures in
+    record { is = λ c. (
         sym (to-profile c.before.before ∙ taken _ _ _ (sym c.before.before.unknown-profile.ensures ∙ c.before.if1.true) ∙ sym c.refuse-header.ensures),
         head_not_put InvalidSequenceHeader _ refl c.refuse-header.ensures (λ _. refl),
-      ),
-      (
+      ); numbers = (
         λ c. (
           sym (to-layout c.before.before ∙ taken _ _ _ (sym c.before.before.above.ensures ∙ c.before.if2.true) ∙ sym c.refuse-header2.ensures),
           head_not_put InvalidSequenceHeader _ refl c.refuse-header2.ensures (λ _. refl),
@@ -38,17 +37,24 @@ returns-then-unknown_profile =
               let k = g.before.before in
               (sym (to-depth k.before ∙ left _ _ _ (sym k.before.above2.ensures ∙ k.if3.false) ∙ sym g.read-groups.ensures.0), g.read-groups.ensures.1),
         ),
-      ),
-    )
+      ) }
 
 pub returns-then-unknown_profile : goal.returns-then-unknown_profile
-returns-then-unknown_profile = answers.0
+returns-then-unknown_profile =
+    let w = answers.0 in
+    record { is = w.0; numbers = w.1 }
 
 pub returns-then-above : goal.returns-then-above
-returns-then-above = answers.1.0
+returns-then-above =
+    let w = answers.1.0 in
+    record { is = w.0; numbers = w.1 }
 
 pub returns-then-above-2 : goal.returns-then-above-2
-returns-then-above-2 = answers.1.1.0
+returns-then-above-2 =
+    let w = answers.1.1.0 in
+    record { is = w.0; numbers = w.1 }
 
 pub returns : goal.returns
-returns = answers.1.1.1
+returns =
+    let w = answers.1.1.1 in
+    record { is = w.0; numbers = w.1 }

@@ -24,42 +24,31 @@ to_end : (e : goal.After-check_end-end) (hdr : SequenceHeader) → let a = (star
     read_rest a.strict a.sb128 a.size a.level hdr a.s.now a.p
     ≡ ended_header e.check_end-end.result (with_tiling hdr (record { present = (tiled e).read-tiling.result.present; t = layout e }) e.get_flag-grain.result.value)
 to_end e hdr =
-    let g = e in
-    let k = g in
-    let p = g.get_flag-grain.result.next in
-    through _ _ (tiled k).read-tiling.ensures.is
-    ∙ left _ _ _ (sym k.is_refusal.ensures ∙ k.if-is_refusal.false)
-    ∙ through _ _ g.get_flag-grain.ensures
+    let p = e.get_flag-grain.result.next in
+    through _ _ (tiled e).read-tiling.ensures.is
+    ∙ left _ _ _ (sym e.is_refusal.ensures ∙ e.if-is_refusal.false)
+    ∙ through _ _ e.get_flag-grain.ensures
     ∙ ap (λ (z : SeqRead). pick p.error (refused_header InvalidSequenceHeader p) z) (through _ _ refl)
     ∙ e.check_end-end.ensures _
 
 pub returns-then-is_refusal : goal.returns-then-is_refusal
 returns-then-is_refusal c =
-    let q = c in
-    let t = (tiled q).read-tiling.ensures in
-    let refusal = sym q.is_refusal.ensures ∙ c.if-is_refusal.true in
+    let t = (tiled c).read-tiling.ensures in
+    let refusal = sym c.is_refusal.ensures ∙ c.if-is_refusal.true in
     (λ hdr. through _ _ t.is ∙ taken _ _ _ refusal, t.put ∙ taken _ _ _ refusal)
 
 pub clear_layout-requires : goal.clear_layout-requires
 clear_layout-requires c =
-    let q = c in
-    rw (q.info-1.given, q.cols-1.given, q.rows-1.given) (start q).requires.0
+    rw (c.info-1.given, c.cols-1.given, c.rows-1.given) (start c).requires.0
 
 pub returns-then-is_refusal-2 : goal.returns-then-is_refusal-2
 returns-then-is_refusal-2 c =
-    let k = c in
-    let e = k in
-    let q = e in
-    let refusal = sym k.is_refusal-2.ensures ∙ c.if-is_refusal-2.true in
-    (to_end e, c.clear_layout.ensures ∙ (tiled q).read-tiling.ensures.behind ∙ (start q).requires.1 ∙ sym (taken _ _ _ refusal))
+    let refusal = sym c.is_refusal-2.ensures ∙ c.if-is_refusal-2.true in
+    (to_end c, c.clear_layout.ensures ∙ (tiled c).read-tiling.ensures.behind ∙ (start c).requires.1 ∙ sym (taken _ _ _ refusal))
 
 pub returns-else-is_refusal-2 : goal.returns-else-is_refusal-2
 returns-else-is_refusal-2 c =
-    let k = c in
-    let e = k in
-    let n = e in
-    let q = n in
-    (to_end e, (tiled q).read-tiling.ensures.put ∙ left _ _ _ (sym q.is_refusal.ensures ∙ n.if-is_refusal.false) ∙ sym (left _ _ _ (sym k.is_refusal-2.ensures ∙ c.if-is_refusal-2.false)))
+    (to_end c, (tiled c).read-tiling.ensures.put ∙ left _ _ _ (sym c.is_refusal.ensures ∙ c.if-is_refusal.false) ∙ sym (left _ _ _ (sym c.is_refusal-2.ensures ∙ c.if-is_refusal-2.false)))
 
 pub shape_of-info-then-is_refusal : goal.shape_of-info-then-is_refusal
 shape_of-info-then-is_refusal c = c.info-1.given

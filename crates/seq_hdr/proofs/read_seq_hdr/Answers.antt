@@ -89,21 +89,20 @@ room_of e = sym e.has_room.ensures ∙ not-false e.has_room.result e.if-not-has_
 pub returns-then-not-has_room : goal.returns-then-not-has_room
 unfolding parse_seq_hdr_into
 returns-then-not-has_room c =
-    let k = c in
-    let lacks = sym k.has_room.ensures ∙ not-true k.has_room.result c.if-not-has_room.true in
-    (rw c.too_short.ensures (sym (left _ _ _ lacks)), ((λ h. contrary h lacks), λ h. contrary h lacks))
+    let lacks = sym c.has_room.ensures ∙ not-true c.has_room.result c.if-not-has_room.true in
+    record { after_after = rw c.too_short.ensures (sym (left _ _ _ lacks)); fact = (λ h. contrary h lacks); fact_2 = λ h. contrary h lacks }
 
 pub returns-then-is_refusal : goal.returns-then-is_refusal
 returns-then-is_refusal c =
-    let h = c in
-    let v = cleared h in
+    let v = cleared c in
     let a = (start v).args in
-    let r = h.read_head-head in
+    let r = c.read_head-head in
     let x = r.result in
-    let refusal : is_refusal x.answer ≡ true = sym h.is_refusal.ensures ∙ c.if-is_refusal.true in
-    zeros a.s.now a.p a.strict a.out.now (given (start v)) (roomy v) x.answer x.next v.before.before.before.cols.given v.before.rows.given
+    let refusal : is_refusal x.answer ≡ true = sym c.is_refusal.ensures ∙ c.if-is_refusal.true in
+    let w = zeros a.s.now a.p a.strict a.out.now (given (start v)) (roomy v) x.answer x.next v.before.before.before.cols.given v.before.rows.given
     (head_ends a.s.now a.p a.strict r.ensures.0 refusal ∙ as_refused a.s.now a.p a.strict r.ensures.0 refusal)
-    (c.put_zeros.ensures ∙ r.ensures.1.behind (replicate 146 (pos 0))) v.before.before.before.before.before.before.clear-layout.ensures
+    (c.put_zeros.ensures ∙ r.ensures.1.behind (replicate 146 (pos 0))) v.before.before.before.before.before.before.clear-layout.ensures in
+    record { after_after = w.0; fact = w.1; fact_2 = w.2 }
 
 pub read_rest-rest-requires : goal.read_rest-rest-requires
 read_rest-rest-requires c =
@@ -118,40 +117,39 @@ pub returns-then-is_refusal-2 : goal.returns-then-is_refusal-2
 returns-then-is_refusal-2 c =
     let to_rest : let a = (start (cleared c)).args in parse_seq_hdr a.s.now a.p a.strict ≡ rest_of a.strict a.s.now c.read_head-head.result = let a = (start (cleared c)).args in
     head_goes_on a.s.now a.p a.strict c.read_head-head.ensures.is (sym c.is_refusal.ensures ∙ c.if-is_refusal.false) in
-    let k = c in
-    let h = headed k in
+    let h = headed c in
     let v = cleared h in
     let a = (start v).args in
     let r = h.before.before.before.read_head in
-    let w = k.read_rest-rest in
-    let refusal = sym k.is_refusal-2.ensures ∙ c.if-is_refusal-2.true in
-    zeros a.s.now a.p a.strict a.out.now (given (start v)) (roomy v) w.result.answer w.result.next
-    (k.cols-2-1.given ∙ v.before.before.before.cols.given) (k.rows-2-1.given ∙ v.before.rows.given)
+    let w = c.read_rest-rest in
+    let refusal = sym c.is_refusal-2.ensures ∙ c.if-is_refusal-2.true in
+    let w = zeros a.s.now a.p a.strict a.out.now (given (start v)) (roomy v) w.result.answer w.result.next
+    (c.cols-2-1.given ∙ v.before.before.before.cols.given) (c.rows-2-1.given ∙ v.before.rows.given)
     (to_rest ∙ w.ensures.0 r.result.hdr ∙ taken _ _ _ refusal)
-    (c.put_zeros-then-is_refusal-2.ensures ∙ r.ensures.1.behind (replicate 146 (pos 0))) (w.ensures.1 ∙ taken _ _ _ refusal ∙ v.before.before.before.before.before.before.clear-layout.ensures)
+    (c.put_zeros-then-is_refusal-2.ensures ∙ r.ensures.1.behind (replicate 146 (pos 0))) (w.ensures.1 ∙ taken _ _ _ refusal ∙ v.before.before.before.before.before.before.clear-layout.ensures) in
+    record { after_after = w.0; fact = w.1; fact_2 = w.2 }
 
 pub returns : goal.returns
 unfolding flat_seq_hdr
 returns c =
     let to_rest : let a = (start (cleared c)).args in parse_seq_hdr a.s.now a.p a.strict ≡ rest_of a.strict a.s.now c.read_head-head.result = let a = (start (cleared c)).args in
     head_goes_on a.s.now a.p a.strict c.read_head-head.ensures.is (sym c.is_refusal.ensures ∙ c.if-is_refusal.false) in
-    let k = c in
-    let h = headed k in
+    let h = headed c in
     let v = cleared h in
     let a = (start v).args in
     let r = h.before.before.before.read_head in
-    let w = k.read_rest-rest in
+    let w = c.read_rest-rest in
     let b = given (start v) in
     let cols = v.before.before.before.cols.given in
     let rows = v.before.rows.given in
-    let n = k in
-    let fine = sym k.is_refusal-2.ensures ∙ c.if-is_refusal-2.false in
+    let fine = sym c.is_refusal-2.ensures ∙ c.if-is_refusal-2.false in
     let y = w.result in
-    let z : SeqRead = record { answer = y.answer; hdr = with_tiling r.result.hdr (record { present = y.present; t = layout k }) y.film_grain_present; next = y.next } in
-    whole a.s.now a.p a.strict a.out.now b (roomy v) z (k.cols-2-1.given ∙ cols) (k.rows-2-1.given ∙ rows)
+    let z : SeqRead = record { answer = y.answer; hdr = with_tiling r.result.hdr (record { present = y.present; t = layout c }) y.film_grain_present; next = y.next } in
+    let w = whole a.s.now a.p a.strict a.out.now b (roomy v) z (c.cols-2-1.given ∙ cols) (c.rows-2-1.given ∙ rows)
     (to_rest ∙ w.ensures.0 r.result.hdr ∙ left _ _ _ fine)
-    (all_put (and_then (r.ensures.1.stands (sym h.is-refusal.ensures ∙ n.if-is_refusal.false)) c.put_last.ensures (omega arith)))
-    (w.ensures.1 ∙ left _ _ _ fine ∙ goes_over no_tile_info b _ (roomy v) v.before.before.before.before.before.before.clear-layout.ensures cols rows (layout k))
+    (all_put (and_then (r.ensures.1.stands (sym h.is-refusal.ensures ∙ c.if-is_refusal.false)) c.put_last.ensures (omega arith)))
+    (w.ensures.1 ∙ left _ _ _ fine ∙ goes_over no_tile_info b _ (roomy v) v.before.before.before.before.before.before.clear-layout.ensures cols rows (layout c)) in
+    record { after_after = w.0; fact = w.1; fact_2 = w.2 }
 
 pub clear_layout-requires : goal.clear_layout-requires
 clear_layout-requires c = room_of c

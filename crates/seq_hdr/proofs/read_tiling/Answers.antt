@@ -53,26 +53,18 @@ none s = sym (ap layout_in s.requires.rows_value_2) ∙ comes_back no_tile_info 
 
 pub returns-then-not-present : goal.returns-then-not-present
 returns-then-not-present c =
-    let g = c in
-    let s = g in
-    let a = s.args in
-    let e = without a.sb128 a.size a.level a.s.now a.p g.get_flag-present.ensures (not-true _ c.if-not-present.true) in
-    record { is = rw e refl; put = rw e (sym s.requires.rows_value_2); behind = refl }
+    let a = c.args in
+    let e = without a.sb128 a.size a.level a.s.now a.p c.get_flag-present.ensures (not-true _ c.if-not-present.true) in
+    record { is = rw e refl; put = rw e (sym c.requires.rows_value_2); behind = refl }
 
 pub returns : goal.returns
 unfolding parse_tile_info_into
 returns c =
-    let k = c in
-    let r = k in
-    let f = r in
-    let n = f in
-    let g = n in
-    let s = g in
-    let a = s.args in
-    let q = f.get_flag-adaptive.result.next in
+    let a = c.args in
+    let q = c.get_flag-adaptive.result.next in
     let args = tiling_args a.sb128 a.size a.level in
-    let into = rw (width s, height s) at r.parse_tile_info_into-r.ensures.after_after in
-    tiling-into (parse_tile_info a.s.now q no_tile_info args) (given s) s.requires.rows_value
-    (into ∙ taken _ _ _ s.requires.rows_value ∙ ap (λ (old : TileInfo). read_into (parse_tile_info a.s.now q old args) (given s)) (none s))
-    k.cols-1.given k.rows-1.given k.adaptive_or-present.ensures
-    (with_layout_lem a.sb128 a.size a.level a.s.now a.p g.get_flag-present.ensures (not-false _ n.if-not-present.false) f.get_flag-adaptive.ensures)
+    let into = rw (width c, height c) at c.parse_tile_info_into-r.ensures.after_after in
+    tiling-into (parse_tile_info a.s.now q no_tile_info args) (given c) c.requires.rows_value
+    (into ∙ taken _ _ _ c.requires.rows_value ∙ ap (λ (old : TileInfo). read_into (parse_tile_info a.s.now q old args) (given c)) (none c))
+    c.cols-1.given c.rows-1.given c.adaptive_or-present.ensures
+    (with_layout_lem a.sb128 a.size a.level a.s.now a.p c.get_flag-present.ensures (not-false _ c.if-not-present.false) c.get_flag-adaptive.ensures)

@@ -8,8 +8,7 @@ use Rattle.seq_inter.proofs.count_if.Goals as goal
 
 below : (c : goal.After-struct_known-1) → c.uniform_if-n.result.value < c.args.max
 below c =
-    let k = c in
-    rw c.uniform_if-n.ensures (uniform_below _ _ _ _ k.requires.0)
+    rw c.uniform_if-n.ensures (uniform_below _ _ _ _ c.requires.0)
 
 pub returns : goal.returns
 unfolding count_if

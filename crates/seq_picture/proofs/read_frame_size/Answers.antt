@@ -16,12 +16,8 @@ height c = search rules
 pub returns : goal.returns
 unfolding read_frame_size
 returns c =
-    let c1 = c in
-    let c2 = c1 in
-    let c3 = c2 in
-    let c4 = c3 in
-    sym (through _ _ c4.get_small-width_bits.ensures.is
-    ∙ through _ _ c3.get_small-height_bits.ensures.is
-    ∙ through _ _ c2.read_length-width.ensures
-    ∙ through _ _ c1.read_length-height.ensures
-    ∙ sym (simp (width c2, height c1)))
+    sym (through _ _ c.get_small-width_bits.ensures.is
+    ∙ through _ _ c.get_small-height_bits.ensures.is
+    ∙ through _ _ c.read_length-width.ensures
+    ∙ through _ _ c.read_length-height.ensures
+    ∙ sym (simp (width c, height c)))

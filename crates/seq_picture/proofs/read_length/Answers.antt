@@ -12,8 +12,7 @@ use Rattle.seq_picture.proofs.read_length.Goals as goal
 -- at most 16 bits
 short : (c : goal.After-struct_known-1) → c.read_bits-r.result.value < 2 ^ 16
 short c =
-    let k = c in
-    omega (arith, bits_below _ _ _ c.read_bits-r.ensures, pow_mono {i = k.args.n} {j = 16} k.requires)
+    omega (arith, bits_below _ _ _ c.read_bits-r.ensures, pow_mono {i = c.args.n} {j = 16} c.requires)
 
 pub overflow_cast-result : goal.overflow_cast-result
 overflow_cast-result c = record { sfits = omega (arith, short c) }

@@ -9,10 +9,6 @@ use Rattle.seqhdr.proofs.put_header.Goals as goal
 pub returns : goal.returns
 unfolding header_text grain_text lines word
 returns c =
-    let grain = c in
-    let layout = grain in
-    let fields = layout in
-    let flat = fields in
-    let hdr = flat.args.hdr in
-    let numbers : flat.put_seq_hdr.new.1.0 ≡ flat_seq_hdr hdr = flat.put_seq_hdr.ensures ∙ append-nil (flat_seq_hdr hdr) in
-    rw (← numbers) (also fields.put_fields-first.ensures (also layout.put_layout-second.ensures grain.put_filled.ensures))
+    let hdr = c.args.hdr in
+    let numbers : c.put_seq_hdr.new.1.0 ≡ flat_seq_hdr hdr = c.put_seq_hdr.ensures ∙ append-nil (flat_seq_hdr hdr) in
+    rw (← numbers) (also c.put_fields-first.ensures (also c.put_layout-second.ensures c.put_filled.ensures))

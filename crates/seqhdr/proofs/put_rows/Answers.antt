@@ -6,8 +6,4 @@ use Rattle.seqhdr.proofs.put_rows.Goals as goal
 pub returns : goal.returns
 unfolding rows_text word
 returns c =
-    let rows = c in
-    let log = rows in
-    let max = log in
-    let min = max in
-    also min.put_field-min.ensures (also max.put_field-max.ensures (also log.put_field-log.ensures rows.put_field.ensures))
+    also c.put_field-min.ensures (also c.put_field-max.ensures (also c.put_field-log.ensures c.put_field.ensures))

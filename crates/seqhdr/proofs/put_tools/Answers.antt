@@ -6,7 +6,4 @@ use Rattle.seqhdr.proofs.put_tools.Goals as goal
 pub returns : goal.returns
 unfolding tools_text lines word
 returns c =
-    let third = c in
-    let second = third in
-    let first = second in
-    also first.put_filled-first.ensures (also second.put_filled-second.ensures third.put_filled.ensures)
+    also c.put_filled-first.ensures (also c.put_filled-second.ensures c.put_filled.ensures)

@@ -39,16 +39,14 @@ slice_bounds-parse_seq_hdr-start c =
 pub returns-then-is_request : goal.returns-then-is_request
 unfolding seq_request
 returns-then-is_request c =
-    let t = c in
-    let s = t.args.s.now in
+    let s = c.args.s.now in
     let rest : take (length s - 1) (drop 1 s) ≡ drop 1 s = take_all (length s - 1) (drop 1 s) (simp length-drop (omega arith)) in
     c.parse_seq_hdr.ensures.value
     ∙ ap (λ (x : List ℕ). parse_seq_hdr x (place_at 0 false) (eqb (get_or s 0 0) 1)) rest
-    ∙ sym (taken _ _ _ (sym t.is_request.ensures ∙ t.if-is_request.true))
+    ∙ sym (taken _ _ _ (sym c.is_request.ensures ∙ c.if-is_request.true))
 
 pub returns : goal.returns
 unfolding seq_request
 returns c =
-    let k = c in
     ap (λ (x : SequenceHeader). record { answer = WrongArguments; hdr = x; next = place_at 0 false }) c.no_seq_hdr-none.ensures
-    ∙ sym (left _ _ _ (sym k.is_request.ensures ∙ c.if-is_request.false))
+    ∙ sym (left _ _ _ (sym c.is_request.ensures ∙ c.if-is_request.false))

@@ -7,18 +7,16 @@ use Rattle.superblocks.proofs.even_split.Goals as goal
 pub returns-then-tile-eq0 : goal.returns-then-tile-eq0
 unfolding base count larger
 returns-then-tile-eq0 c =
-    let z = c in
-    let a = z.args in
-    let b = z.shifted.ensures in
+    let a = c.args in
+    let b = c.shifted.ensures in
     let t = eq-eqb (a.fsb.0 / 2 ^ (a.log2 % 32)) 0 (sym b ∙ c.if-tile-eq0.true) in
     (b, sym (taken _ _ _ t), sym (taken _ _ _ t))
 
 pub returns : goal.returns
 unfolding base count larger
 returns c =
-    let z = c in
-    let a = z.args in
-    let b = z.shifted.ensures in
-    let e = z.power-max_tiles.ensures.0 in
+    let a = c.args in
+    let b = c.shifted.ensures in
+    let e = c.power-max_tiles.ensures.0 in
     let t = ne_eqb (a.fsb.0 / 2 ^ (a.log2 % 32)) 0 (λ x. c.if-tile-eq0.false (b ∙ x)) in
     (b, e ∙ sym (left _ _ _ t), ap (λ (x : ℕ). bit_and a.fsb.0 (x - 1)) e ∙ and_mask a.fsb.0 (a.log2 % 32) ∙ sym (left _ _ _ t))

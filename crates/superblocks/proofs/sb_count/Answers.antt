@@ -11,5 +11,4 @@ size c =
 pub returns : goal.returns
 unfolding superblocks
 returns c =
-    let w = c in
-    c.whole_sbs.ensures ∙ rw (c.u32_to_u64-2.ensures, w.u32_to_u64.ensures, size w)
+    c.whole_sbs.ensures ∙ rw (c.u32_to_u64-2.ensures, c.u32_to_u64.ensures, size c)

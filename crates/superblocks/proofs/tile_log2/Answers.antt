@@ -49,17 +49,15 @@ overflow_cast-result c = omega (arith, by c, (b c).1)
 
 pub returns-then-sz-k : goal.returns-then-sz-k
 returns-then-sz-k c =
-    let u = c in
-    let l = a u in
-    let m = b u in
-    omega (arith, by u, log_more l.0 m.0 (sz u) (tgt u) l.2 l.3 m.2 m.3 u.requires.0 u.requires.1 (rw (shifted u) at c.if-sz-k.true))
+    let l = a c in
+    let m = b c in
+    omega (arith, by c, log_more l.0 m.0 (sz c) (tgt c) l.2 l.3 m.2 m.3 c.requires.0 c.requires.1 (rw (shifted c) at c.if-sz-k.true))
 
 pub overflow_cast-result-2 : goal.overflow_cast-result-2
 overflow_cast-result-2 c = omega (arith, by c, (b c).1)
 
 pub returns : goal.returns
 returns c =
-    let u = c in
-    let l = a u in
-    let m = b u in
-    omega (arith, by u, log_is l.0 m.0 (sz u) (tgt u) l.2 l.3 m.2 m.3 u.requires.0 u.requires.1 (rw (shifted u) at c.if-sz-k.false))
+    let l = a c in
+    let m = b c in
+    omega (arith, by c, log_is l.0 m.0 (sz c) (tgt c) l.2 l.3 m.2 m.3 c.requires.0 c.requires.1 (rw (shifted c) at c.if-sz-k.false))

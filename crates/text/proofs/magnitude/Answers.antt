@@ -24,8 +24,7 @@ absolute (negsuc n) h = omega arith
 
 negative : (c : goal.Then-n-lt0) → negsuc 0 -ℤ to_z w64 (of_z w64 c.args.n) ≡ pos (mag c.args.n)
 negative c =
-    let k = c in
-    ap (λ (x : ℤ). negsuc 0 -ℤ x) (to_z-of_z k.ranges.n) ∙ minus k.args.n (rw (to_z-of_z k.ranges.n) at c.if-n-lt0.true)
+    ap (λ (x : ℤ). negsuc 0 -ℤ x) (to_z-of_z c.ranges.n) ∙ minus c.args.n (rw (to_z-of_z c.ranges.n) at c.if-n-lt0.true)
 
 small : (c : goal.Then-n-lt0) → SFits w64 (pos (mag c.args.n))
 small c = record { sfits = c.ranges.n.sfits }
@@ -41,9 +40,8 @@ overflow_add-result c = rw (negative c, to_z-of_z (small c)) (omega (arith, c.ra
 
 pub overflow_cast-result-2 : goal.overflow_cast-result-2
 overflow_cast-result-2 c =
-    let k = c in
-    let h = rw (to_z-of_z k.ranges.n) at c.if-n-lt0.false in
-    rw (to_z-of_z k.ranges.n) ((not_negative k.args.n h).0, record { fits = lt_of_le_of_lt {m = 2 ^ 63} (nat_abs-le k.args.n k.ranges.n.sfits) (lit< tt) })
+    let h = rw (to_z-of_z c.ranges.n) at c.if-n-lt0.false in
+    rw (to_z-of_z c.ranges.n) ((not_negative c.args.n h).0, record { fits = lt_of_le_of_lt {m = 2 ^ 63} (nat_abs-le c.args.n c.ranges.n.sfits) (lit< tt) })
 
 pub returns-then-n-lt0 : goal.returns-then-n-lt0
 returns-then-n-lt0 c = rw (negative c, to_z-of_z (small c)) (absolute c.args.n (rw (to_z-of_z c.ranges.n) at c.if-n-lt0.true))

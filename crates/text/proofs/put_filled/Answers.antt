@@ -16,14 +16,11 @@ loop-i-init c = ((search rules, search rules), refl, none _ _)
 
 pub loop-i-preserved : goal.loop-i-preserved
 loop-i-preserved c =
-    let f = c in
-    let l = f in
-    let s = l in
-    let t = s.args.template.now in
-    let more = f.loop-i-test.true in (
-      (search rules, omega (arith, l.loop-i.invariant.0.1, c.used_by-k.ensures.1)),
-      omega (arith, marks_more t l.loop-i.i more, c.used_by-k.ensures.0, l.loop-i.invariant.1),
-      rw (filled_more t s.args.xs.now s.args.first l.loop-i.i more, ← l.loop-i.invariant.1, ← f.number_at.ensures) (within (omega arith) (also l.loop-i.invariant.2 (rw (to_z-of_z {w = w64} (record { sfits = f.number_at.type_inv })) at f.put_filler-next.ensures))),
+    let t = c.args.template.now in
+    let more = c.loop-i-test.true in (
+      (search rules, omega (arith, c.loop-i.invariant.0.1, c.used_by-k.ensures.1)),
+      omega (arith, marks_more t c.loop-i.i more, c.used_by-k.ensures.0, c.loop-i.invariant.1),
+      rw (filled_more t c.args.xs.now c.args.first c.loop-i.i more, ← c.loop-i.invariant.1, ← c.number_at.ensures) (within (omega arith) (also c.loop-i.invariant.2 (rw (to_z-of_z {w = w64} (record { sfits = c.number_at.type_inv })) at c.put_filler-next.ensures))),
     )
 
 pub returns : goal.returns

@@ -6,12 +6,8 @@ use Rattle.text.proofs.put_filler.Goals as goal
 
 pub returns-then-c-eq35 : goal.returns-then-c-eq35
 returns-then-c-eq35 c =
-    let b = c in
-    let s = b in
-    rw b.if-c-eq35.true (rw (to_z-of_z s.ranges.x) at b.put_signed.ensures)
+    rw c.if-c-eq35.true (rw (to_z-of_z c.ranges.x) at c.put_signed.ensures)
 
 pub returns : goal.returns
 returns c =
-    let b = c in
-    let s = b in
-    rw (ne_eqb s.args.c 35 b.if-c-eq35.false) (within (omega arith) b.put_byte.ensures)
+    rw (ne_eqb c.args.c 35 c.if-c-eq35.false) (within (omega arith) c.put_byte.ensures)

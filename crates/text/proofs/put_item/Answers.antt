@@ -3,7 +3,7 @@ use Rattle.text.proofs.Puts.{within}
 use Rattle.text.proofs.put_item.Goals as goal
 
 pub returns-then-first : goal.returns-then-first
-returns-then-first c = let b = c in rw b.if-first.true (within (omega arith) b.put_number.ensures)
+returns-then-first c = rw c.if-first.true (within (omega arith) c.put_number.ensures)
 
 pub returns : goal.returns
-returns c = let b = c in rw b.if-first.false b.put_next.ensures
+returns c = rw c.if-first.false c.put_next.ensures

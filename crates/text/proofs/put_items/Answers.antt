@@ -13,17 +13,13 @@ loop-i-init c = (search rules, none _ _)
 
 pub loop-i-preserved : goal.loop-i-preserved
 loop-i-preserved c =
-    let b = c in
-    let l = b in
-    let xs = l.args.xs.now in
-    (search rules, rw (row_more xs l.loop-i.i (omega (arith, l.least-end.ensures)), ← b.u16_to_u64.ensures) (within (omega arith) (also l.loop-i.invariant.1 b.put_item-next.ensures)))
+    let xs = c.args.xs.now in
+    (search rules, rw (row_more xs c.loop-i.i (omega (arith, c.least-end.ensures)), ← c.u16_to_u64.ensures) (within (omega arith) (also c.loop-i.invariant.1 c.put_item-next.ensures)))
 
 pub returns : goal.returns
 returns c =
-    let l = c in
-    let s = l in
-    let done : l.loop-i.i ≡ l.least-end.result = omega arith in
-    within {m = 21 * l.loop-i.i} (omega (arith, l.least-end.ensures)) (rw (← take_min s.args.xs.now s.args.n, ← l.least-end.ensures, ← done) l.loop-i.invariant.1)
+    let done : c.loop-i.i ≡ c.least-end.result = omega arith in
+    within {m = 21 * c.loop-i.i} (omega (arith, c.least-end.ensures)) (rw (← take_min c.args.xs.now c.args.n, ← c.least-end.ensures, ← done) c.loop-i.invariant.1)
 
 pub shape_of-out : goal.shape_of-out
 shape_of-out c = kept c.loop-i.invariant.1

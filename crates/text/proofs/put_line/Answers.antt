@@ -4,7 +4,4 @@ use Rattle.text.proofs.put_line.Goals as goal
 
 pub returns : goal.returns
 returns c =
-    let end = c in
-    let numbers = end in
-    let word = numbers in
-    rw append_assoc (also word.put_word-next.ensures (also numbers.put_nexts-next.ensures end.put_byte.ensures))
+    rw append_assoc (also c.put_word-next.ensures (also c.put_nexts-next.ensures c.put_byte.ensures))

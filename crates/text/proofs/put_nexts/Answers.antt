@@ -13,8 +13,7 @@ loop-i-init c = (search rules, none _ _)
 
 pub loop-i-preserved : goal.loop-i-preserved
 loop-i-preserved c =
-    let l = c in
-    (search rules, rw (nexts_more _ l.loop-i.i c.loop-i-test.true) (within (omega arith) (also l.loop-i.invariant.1 c.put_next-next.ensures)))
+    (search rules, rw (nexts_more _ c.loop-i.i c.loop-i-test.true) (within (omega arith) (also c.loop-i.invariant.1 c.put_next-next.ensures)))
 
 pub shape_of-out : goal.shape_of-out
 shape_of-out c = kept c.loop-i.invariant.1

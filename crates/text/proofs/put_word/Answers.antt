@@ -11,8 +11,7 @@ loop-i-init c = (search rules, none _ _)
 
 pub loop-i-preserved : goal.loop-i-preserved
 loop-i-preserved c =
-    let l = c in
-    (search rules, rw (add-one l.loop-i.i, take-suc {A = ℕ} _ l.loop-i.i 0 c.loop-i-test.true) (within (omega arith) (also l.loop-i.invariant.1 c.put_byte-next.ensures)))
+    (search rules, rw (add-one c.loop-i.i, take-suc {A = ℕ} _ c.loop-i.i 0 c.loop-i-test.true) (within (omega arith) (also c.loop-i.invariant.1 c.put_byte-next.ensures)))
 
 pub shape_of-out : goal.shape_of-out
 shape_of-out c = kept c.loop-i.invariant.1

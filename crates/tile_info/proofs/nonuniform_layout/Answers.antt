@@ -25,38 +25,25 @@ unless true h = absurd (h refl)
 unless false h = refl
 
 -- a layout that is refused has more than 64 superblocks across or down
-needed : (h : goal.After-slice_known-then-is_refusal-2-1) → let s = h in
-    is_refusal (read s).answer ≡ true → not (h.at_most_64.result && h.at_most_64-2.result) ≡ true
+needed : (h : goal.After-slice_known-then-is_refusal-2-1) → 
+    is_refusal (read h).answer ≡ true → not (h.at_most_64.result && h.at_most_64-2.result) ≡ true
 needed h refused =
-    let s = h in
-    let k = s.requires.known.0 in
+    let k = h.requires.known.0 in
     unless (h.at_most_64.result && h.at_most_64-2.result)
     (λ e.
     let fit = both h.at_most_64.result h.at_most_64-2.result e in
-    let wide = leb-true s.args.k.sbw.0 64 (sym h.at_most_64.ensures ∙ fit.0) in
-    let high = leb-true s.args.k.sbh.0 64 (sym h.at_most_64-2.ensures ∙ fit.1) in
-    contrary refused (never_refused s.args.s.now s.args.p (layout_in (given s)) s.args.a (omega (arith, wide, k.across)) (omega (arith, high, k.down))))
+    let wide = leb-true h.args.k.sbw.0 64 (sym h.at_most_64.ensures ∙ fit.0) in
+    let high = leb-true h.args.k.sbh.0 64 (sym h.at_most_64-2.ensures ∙ fit.1) in
+    contrary refused (never_refused h.args.s.now h.args.p (layout_in (given h)) h.args.a (omega (arith, wide, k.across)) (omega (arith, high, k.down))))
 
 pub returns-then-is_refusal : goal.returns-then-is_refusal
 returns-then-is_refusal c =
-    let y = c in
-    let x = y in
-    let t = x in
-    let k = t in
-    let r = k in
-    let o = r in
-    let q = o in
-    let h = q in
-    let s = h in
-    let w = r.read_nonuniform-r.ensures in
-    let refused = sym (ap (λ (z : TileOutcome). is_refusal z.answer) w.answers) ∙ sym k.is_refusal.ensures ∙ t.if-is_refusal.true in
-    restored (read s) (given s) w refused s.requires.known.1 k.cols-1.given k.rows-1.given
-    (x.put_starts.ensures ∙ rw (q.old_starts-old_cols.ensures ∙ taken _ _ _ (needed h refused)) refl) (y.put_starts-then-is_refusal.ensures ∙ rw (o.old_starts-old_rows.ensures ∙ taken _ _ _ (needed h refused)) refl)
+    let w = c.read_nonuniform-r.ensures in
+    let refused = sym (ap (λ (z : TileOutcome). is_refusal z.answer) w.answers) ∙ sym c.is_refusal.ensures ∙ c.if-is_refusal.true in
+    restored (read c) (given c) w refused c.requires.known.1 c.cols-1.given c.rows-1.given
+    (c.put_starts.ensures ∙ rw (c.old_starts-old_cols.ensures ∙ taken _ _ _ (needed c refused)) refl) (c.put_starts-then-is_refusal.ensures ∙ rw (c.old_starts-old_rows.ensures ∙ taken _ _ _ (needed c refused)) refl)
 
 pub returns-else-is_refusal : goal.returns-else-is_refusal
 returns-else-is_refusal c =
-    let k = c in
-    let r = k in
-    let s = r in
-    let w = r.read_nonuniform-r.ensures in
-    all_kept (read s) (given s) w (sym (ap (λ (z : TileOutcome). is_refusal z.answer) w.answers) ∙ sym k.is_refusal.ensures ∙ c.if-is_refusal.false)
+    let w = c.read_nonuniform-r.ensures in
+    all_kept (read c) (given c) w (sym (ap (λ (z : TileOutcome). is_refusal z.answer) w.answers) ∙ sym c.is_refusal.ensures ∙ c.if-is_refusal.false)

@@ -9,14 +9,12 @@ use Rattle.tile_info.proofs.parse_tile_info.Goals as goal
 
 pub returns : goal.returns
 returns c =
-    let r = c in
-    let p = r in
-    let s = p in
-    let k = s.args in
-    let f = s.ranges in
+    let k = c.args in
+    let f = c.ranges in
     let t = k.thdr in
-    let put = p.put_tile_info.ensures in
+    let put = c.put_tile_info.ensures in
     let a = args_of k.sbmul k.sb128 k.seq_sb128 k.w k.h k.level k.tier in
-    let has = ap has_room put.0 ∙ put_room t _ (cols_length t _ s.well_formed.1.1.0) (rows_length t _ s.well_formed.1.1.0) refl in
-    promised k.s.now k.p t a
-    (whole_read k.s.now k.p t a _ (put.1 refl) (r.parse_tile_info_into-r.ensures.fact.0 has) (rw (to_z-of_z f.sbmul, to_z-of_z f.w, to_z-of_z f.h) refl) c.tile_info_of-info.ensures)
+    let has = ap has_room put.0 ∙ put_room t _ (cols_length t _ c.well_formed.1.1.0) (rows_length t _ c.well_formed.1.1.0) refl in
+    let w = promised k.s.now k.p t a
+    (whole_read k.s.now k.p t a _ (put.1 refl) (c.parse_tile_info_into-r.ensures.fact.0 has) (rw (to_z-of_z f.sbmul, to_z-of_z f.w, to_z-of_z f.h) refl) c.tile_info_of-info.ensures) in
+    record { value = w.0; demand3 = w.1; read_over = w.2 }

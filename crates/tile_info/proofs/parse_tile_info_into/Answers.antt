@@ -24,16 +24,14 @@ asked s =
 pub returns-then-not-has_room : goal.returns-then-not-has_room
 unfolding parse_tile_info_into
 returns-then-not-has_room c =
-    let k = c in
-    let s = k in
-    let lacks = sym k.has_room.ensures ∙ not-true k.has_room.result c.if-not-has_room.true in
-    what-is-left s.args.s.now s.args.p (given s) (asked s) (rw c.unread.ensures (sym (left _ _ _ lacks))) refl refl
+    let lacks = sym c.has_room.ensures ∙ not-true c.has_room.result c.if-not-has_room.true in
+    let w = what-is-left c.args.s.now c.args.p (given c) (asked c) (rw c.unread.ensures (sym (left _ _ _ lacks))) refl refl in
+    record { after_after = w.0; fact = w.1; fact_2 = w.2; fact_3 = w.3 }
 
 pub read_layout-requires : goal.read_layout-requires
 read_layout-requires c =
     let has : has_room (given c) ≡ true = sym c.has_room.ensures ∙ not-false c.has_room.result c.if-not-has_room.false in
-    let t = c in
-    (sym t.in_domain_lem.ensures ∙ t.if-in_domain.true, has)
+    (sym c.in_domain.ensures ∙ c.if-in_domain.true, has)
 
 pub returns-then-in_domain : goal.returns-then-in_domain
 unfolding parse_tile_info_into
@@ -41,12 +39,9 @@ returns-then-in_domain c =
     let made : c.tile_args-a.result ≡ asked c = let f = c.ranges in
     rw (to_z-of_z f.sbmul, to_z-of_z f.w, to_z-of_z f.h) at c.tile_args-a.ensures in
     let has : has_room (given c) ≡ true = sym c.has_room.ensures ∙ not-false c.has_room.result c.if-not-has_room.false in
-    let r = c in
-    let m = r in
-    let e = m in
-    let s = e in
-    let put = r.read_layout.ensures ∙ ap (λ (a : TileArgs). read_into (parse_tile_info s.args.s.now s.args.p (layout_in (given s)) a) (given s)) (made) in
-    what-is-left s.args.s.now s.args.p (given s) (asked s) (put ∙ sym (taken _ _ _ (has))) c.cols-1.given c.rows-1.given
+    let put = c.read_layout.ensures ∙ ap (λ (a : TileArgs). read_into (parse_tile_info c.args.s.now c.args.p (layout_in (given c)) a) (given c)) (made) in
+    let w = what-is-left c.args.s.now c.args.p (given c) (asked c) (put ∙ sym (taken _ _ _ (has))) c.cols-1.given c.rows-1.given in
+    record { after_after = w.0; fact = w.1; fact_2 = w.2; fact_3 = w.3 }
 
 pub returns : goal.returns
 unfolding parse_tile_info_into parse_tile_info
@@ -54,10 +49,7 @@ returns c =
     let made : c.tile_args-a.result ≡ asked c = let f = c.ranges in
     rw (to_z-of_z f.sbmul, to_z-of_z f.w, to_z-of_z f.h) at c.tile_args-a.ensures in
     let has : has_room (given c) ≡ true = sym c.has_room.ensures ∙ not-false c.has_room.result c.if-not-has_room.false in
-    let e = c in
-    let m = e in
-    let h = m in
-    let s = h in
-    let out = ap in_domain (sym (made)) ∙ sym e.in_domain_lem.ensures ∙ e.if-in_domain.false in
-    what-is-left s.args.s.now s.args.p (given s) (asked s)
-    (rw c.unread-2.ensures (sym (taken _ _ _ (has) ∙ ap (λ (z : TileRead). read_into z (given s)) (left _ _ _ out)))) refl refl
+    let out = ap in_domain (sym (made)) ∙ sym c.in_domain.ensures ∙ c.if-in_domain.false in
+    let w = what-is-left c.args.s.now c.args.p (given c) (asked c)
+    (rw c.unread-2.ensures (sym (taken _ _ _ (has) ∙ ap (λ (z : TileRead). read_into z (given c)) (left _ _ _ out)))) refl refl in
+    record { after_after = w.0; fact = w.1; fact_2 = w.2; fact_3 = w.3 }

@@ -45,36 +45,23 @@ behind s p b e = ap (λ (n : Number). n.next) e
 
 pub uniform_layout-next-requires : goal.uniform_layout-next-requires
 uniform_layout-next-requires c =
-    let t = c in
-    let k = t in
-    let s = k in
-    (s.requires.a_value, (k.frame_limits-k.ensures, (t.look_ahead-word.ensures, s.requires.rows_value)))
+    (c.requires.a_value, (c.frame_limits-k.ensures, (c.look_ahead-word.ensures, c.requires.rows_value)))
 
 pub returns-then-word-ge2147483648 : goal.returns-then-word-ge2147483648
 returns-then-word-ge2147483648 c =
-    let u = c in
-    let t = u in
-    let s = t in
-    let a = s.args in
-    let flag = flag_set a.s.now a.p t.look_ahead-word.result t.look_ahead-word.ensures t.if-word-ge2147483648.true in
-    accepted a.s.now _ a.a (given s) u.uniform_layout-next.ensures
-    ∙ ap (λ (z : TileRead). read_into z (given s)) (sym (uniform a.s.now a.p (layout_in (given s)) a.a s.requires.a_value flag))
+    let a = c.args in
+    let flag = flag_set a.s.now a.p c.look_ahead-word.result c.look_ahead-word.ensures c.if-word-ge2147483648.true in
+    accepted a.s.now _ a.a (given c) c.uniform_layout-next.ensures
+    ∙ ap (λ (z : TileRead). read_into z (given c)) (sym (uniform a.s.now a.p (layout_in (given c)) a.a c.requires.a_value flag))
 
 pub nonuniform_layout-requires : goal.nonuniform_layout-requires
 nonuniform_layout-requires c =
-    let e = c in
-    let k = e in
-    let s = k in
-    (s.requires.a_value, (k.frame_limits-k.ensures, s.requires.rows_value))
+    (c.requires.a_value, (c.frame_limits-k.ensures, c.requires.rows_value))
 
 pub returns : goal.returns
 returns c =
-    let u = c in
-    let g = u in
-    let e = g in
-    let s = e in
-    let a = s.args in
-    let flag = flag_unset a.s.now a.p e.look_ahead-word.result e.look_ahead-word.ensures e.if-word-ge2147483648.false in
-    u.nonuniform_layout.ensures
-    ∙ ap (λ (q : Place). read_into (non_uniform_layout a.s.now q (layout_in (given s)) a.a) (given s)) (behind a.s.now a.p g.get_bit-uniform.result g.get_bit-uniform.ensures)
-    ∙ ap (λ (z : TileRead). read_into z (given s)) (sym (non_uniform a.s.now a.p (layout_in (given s)) a.a s.requires.a_value flag))
+    let a = c.args in
+    let flag = flag_unset a.s.now a.p c.look_ahead-word.result c.look_ahead-word.ensures c.if-word-ge2147483648.false in
+    c.nonuniform_layout.ensures
+    ∙ ap (λ (q : Place). read_into (non_uniform_layout a.s.now q (layout_in (given c)) a.a) (given c)) (behind a.s.now a.p c.get_bit-uniform.result c.get_bit-uniform.ensures)
+    ∙ ap (λ (z : TileRead). read_into z (given c)) (sym (non_uniform a.s.now a.p (layout_in (given c)) a.a c.requires.a_value flag))

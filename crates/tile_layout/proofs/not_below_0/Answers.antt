@@ -15,17 +15,14 @@ negative (negsuc n) h = refl
 
 pub returns-then-x-lt0 : goal.returns-then-x-lt0
 returns-then-x-lt0 c =
-    let k = c in
-    negative k.args.x (rw (to_z-of_z k.ranges.x) at c.if-x-lt0.true)
+    negative c.args.x (rw (to_z-of_z c.ranges.x) at c.if-x-lt0.true)
 
 pub overflow_cast-result : goal.overflow_cast-result
 overflow_cast-result c =
-    let k = c in
-    let h = rw (to_z-of_z k.ranges.x) at c.if-x-lt0.false in
-    rw (to_z-of_z k.ranges.x) ((not_negative k.args.x h).0, nat_abs_fits k.args.x k.ranges.x)
+    let h = rw (to_z-of_z c.ranges.x) at c.if-x-lt0.false in
+    rw (to_z-of_z c.ranges.x) ((not_negative c.args.x h).0, nat_abs_fits c.args.x c.ranges.x)
 
 pub returns : goal.returns
 returns c =
-    let k = c in
-    let h = rw (to_z-of_z k.ranges.x) at c.if-x-lt0.false in
-    rw (to_z-of_z k.ranges.x) (ap unsigned (not_negative k.args.x h).1)
+    let h = rw (to_z-of_z c.ranges.x) at c.if-x-lt0.false in
+    rw (to_z-of_z c.ranges.x) (ap unsigned (not_negative c.args.x h).1)

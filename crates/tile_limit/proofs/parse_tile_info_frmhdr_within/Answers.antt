@@ -9,5 +9,5 @@ pub returns : goal.returns
 returns c =
     let a = c.args in
     let q = seq_layout a.seqhdr in
-    let e = c.frame_within_lem.ensures ∙ ap (frame_within a.limit a.hdr) c.parse_tile_info_frmhdr.ensures.value in
-    (e, subst (LimitedFrame a.s.now a.p a.hdr q a.limit) (sym e) (limited_frame a.s.now a.p a.hdr q a.limit))
+    let e = c.frame_within.ensures ∙ ap (frame_within a.limit a.hdr) c.parse_tile_info_frmhdr.ensures.value in
+    record { value = e; limited_frame = subst (LimitedFrame a.s.now a.p a.hdr q a.limit) (sym e) (limited_frame a.s.now a.p a.hdr q a.limit) }

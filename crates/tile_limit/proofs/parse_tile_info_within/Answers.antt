@@ -13,9 +13,8 @@ asked s = args_of s.args.sbmul s.args.sb128 s.args.seq-sb128 s.args.w s.args.h s
 
 pub returns : goal.returns
 returns c =
-    let s = c in
-    let a = s.args in
-    let read : c.parse_tile_info-r.result ≡ parse_tile_info a.s.now a.p a.thdr (asked s) =
-    rw (to_z-of_z s.ranges.sbmul, to_z-of_z s.ranges.w, to_z-of_z s.ranges.h) at c.parse_tile_info-r.ensures.value in
+    let a = c.args in
+    let read : c.parse_tile_info-r.result ≡ parse_tile_info a.s.now a.p a.thdr (asked c) =
+    rw (to_z-of_z c.ranges.sbmul, to_z-of_z c.ranges.w, to_z-of_z c.ranges.h) at c.parse_tile_info-r.ensures.value in
     let e = c.tiles_within.ensures ∙ ap (tiles_within a.limit a.thdr) read in
-    (e, subst (LimitedTiles a.s.now a.p a.thdr (asked s) a.limit) (sym e) (limited_tiles a.s.now a.p a.thdr (asked s) a.limit))
+    record { value = e; limited_tiles = subst (LimitedTiles a.s.now a.p a.thdr (asked c) a.limit) (sym e) (limited_tiles a.s.now a.p a.thdr (asked c) a.limit) }

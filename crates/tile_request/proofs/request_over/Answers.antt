@@ -64,8 +64,7 @@ bounds-s-7 c =
 pub returns-then-is_request : goal.returns-then-is_request
 unfolding request_over
 returns-then-is_request c =
-    let t = c in
-    let a = t.args in
+    let a = c.args in
     let s = a.s.now in
     let m = c.multiplier-sbmul in
     let w = c.samples-w in
@@ -76,7 +75,7 @@ returns-then-is_request c =
     ∙ ap (λ (x : ℤ). read s (drop 8 s) a.old x (to_z w32 (of_z w32 w.result)) (to_z w32 (of_z w32 h.result))) (back m.result m.type_inv ∙ m.ensures)
     ∙ ap (λ (x : ℤ). read s (drop 8 s) a.old (pos (multiplier_of (get_or s 4 0) (get_or s 5 0))) x (to_z w32 (of_z w32 h.result))) (back w.result w.type_inv ∙ w.ensures)
     ∙ ap (λ (x : ℤ). read s (drop 8 s) a.old (pos (multiplier_of (get_or s 4 0) (get_or s 5 0))) (pos (samples_at s 0)) x) (back h.result h.type_inv ∙ h.ensures)
-    ∙ sym (taken _ _ _ (sym t.is_request.ensures ∙ t.if-is_request.true))
+    ∙ sym (taken _ _ _ (sym c.is_request.ensures ∙ c.if-is_request.true))
 
 pub returns : goal.returns
 unfolding request_over

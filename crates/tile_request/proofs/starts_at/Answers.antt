@@ -16,13 +16,12 @@ loop-k-init c = search rules
 
 pub loop-k-preserved : goal.loop-k-preserved
 loop-k-preserved c =
-    let l = c in
-    let a = l.args in
+    let a = c.args in
     let f = start a.s.now a.i in
-    let k = l.loop-k.k in
+    let k = c.loop-k.k in
     let v = c.two_at.result in (
       search rules,
-      ap (λ (t : List ℕ). set t k v) (l.loop-k.invariant.1 ∙ sym (append-nil (padded (tabulate f 0 k))))
+      ap (λ (t : List ℕ). set t k v) (c.loop-k.invariant.1 ∙ sym (append-nil (padded (tabulate f 0 k))))
           ∙ stored f [] k v c.two_at.ensures.0 (search rules)
           ∙ append-nil (padded (tabulate f 0 (k + 1))),
     )
@@ -30,7 +29,6 @@ loop-k-preserved c =
 pub returns : goal.returns
 unfolding starts_at
 returns c =
-    let l = c in
-    let f = start l.args.s.now l.args.i in
-    let done : l.loop-k.k ≡ 65 = omega arith in
-    rw (l.loop-k.invariant.1, done, length_tabulate f 0 65) (append-nil (tabulate f 0 65))
+    let f = start c.args.s.now c.args.i in
+    let done : c.loop-k.k ≡ 65 = omega arith in
+    rw (c.loop-k.invariant.1, done, length_tabulate f 0 65) (append-nil (tabulate f 0 65))

@@ -15,8 +15,7 @@ one_more out bytes i h g =
 -- the buffer keeps its length
 kept : (l : goal.At-loop-i invariant-loop decreases-loop) → length l.loop-i.out ≡ length l.args.out.now
 kept l =
-    let s = l in
-    ap length l.loop-i.invariant.1 ∙ length-paste s.args.out.now 0 s.args.bytes.now l.loop-i.i (omega (arith, s.requires.0, l.loop-i.invariant.0)) (omega (arith, s.requires.1, l.loop-i.invariant.0))
+    ap length l.loop-i.invariant.1 ∙ length-paste l.args.out.now 0 l.args.bytes.now l.loop-i.i (omega (arith, l.requires.0, l.loop-i.invariant.0)) (omega (arith, l.requires.1, l.loop-i.invariant.0))
 
 pub loop-i-init : goal.loop-i-init
 loop-i-init c = (omega arith, paste-zero c.args.out.now 0 c.args.bytes.now)
@@ -26,27 +25,21 @@ bounds-bytes-i c = omega (arith, c.loop-i-test.true, c.requires.1)
 
 pub bounds-out-i : goal.bounds-out-i
 bounds-out-i c =
-    let k = c in
-    omega (arith, kept k, k.loop-i-test.true, k.requires.0)
+    omega (arith, kept c, c.loop-i-test.true, c.requires.0)
 
 pub loop-i-preserved : goal.loop-i-preserved
 loop-i-preserved c =
-    let k = c in
-    let l = k in
-    let s = l in
-    let bytes = s.args.bytes.now in (
-      omega (arith, k.loop-i-test.true),
-      ap (λ (x : List ℕ). set x l.loop-i.i (get_or bytes l.loop-i.i 0)) l.loop-i.invariant.1
-          ∙ one_more s.args.out.now bytes l.loop-i.i (omega (arith, k.loop-i-test.true, s.requires.0)) (omega (arith, k.loop-i-test.true, s.requires.1)),
+    let bytes = c.args.bytes.now in (
+      omega (arith, c.loop-i-test.true),
+      ap (λ (x : List ℕ). set x c.loop-i.i (get_or bytes c.loop-i.i 0)) c.loop-i.invariant.1
+          ∙ one_more c.args.out.now bytes c.loop-i.i (omega (arith, c.loop-i-test.true, c.requires.0)) (omega (arith, c.loop-i-test.true, c.requires.1)),
     )
 
 pub returns : goal.returns
 returns c =
-    let l = c in
-    let s = l in
-    let e : l.loop-i.i ≡ s.args.n = omega (arith, l.loop-i.invariant.0) in
-    let f : 0 + s.args.n ≡ s.args.n = omega arith in
-    rw f at (rw e at l.loop-i.invariant.1)
+    let e : c.loop-i.i ≡ c.args.n = omega (arith, c.loop-i.invariant.0) in
+    let f : 0 + c.args.n ≡ c.args.n = omega arith in
+    rw f at (rw e at c.loop-i.invariant.1)
 
 pub shape_of-out : goal.shape_of-out
 shape_of-out c = kept c

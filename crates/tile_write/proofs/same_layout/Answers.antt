@@ -19,6 +19,4 @@ same_starts-requires-2 c =
 pub returns : goal.returns
 unfolding same_layout
 returns c =
-    let k = c in
-    let n = k in
-    rw (c.same_starts-2.ensures, k.same_starts.ensures, n.same_numbers.ensures, n.same_flag.ensures) refl
+    rw (c.same_starts-2.ensures, c.same_starts.ensures, c.same_numbers.ensures, c.same_flag.ensures) refl

@@ -11,15 +11,12 @@ loop-i-init c = (omega arith, λ k h. absurd (omega arith))
 
 pub returns-then-a-i : goal.returns-then-a-i
 returns-then-a-i c =
-    let k = c in
-    let s = k in
-    sym (starts_differ s.args.a.now s.args.b.now k.loop-i.i c.if-a-i.true)
+    sym (starts_differ c.args.a.now c.args.b.now c.loop-i.i c.if-a-i.true)
 
 pub loop-i-preserved : goal.loop-i-preserved
 loop-i-preserved c =
-    let k = c in
-    let l = k.loop-i in (
-      omega (arith, k.loop-i-test.true),
+    let l = c.loop-i in (
+      omega (arith, c.loop-i-test.true),
       λ j h.
           ⊎_elim (λ g. l.invariant.1 j g)
           (λ g.
@@ -30,6 +27,4 @@ loop-i-preserved c =
 
 pub returns : goal.returns
 returns c =
-    let l = c in
-    let s = l in
-    sym (starts_same s.args.a.now s.args.b.now s.requires (λ k h. l.loop-i.invariant.1 k (omega (arith, c.loop-i-test.false))))
+    sym (starts_same c.args.a.now c.args.b.now c.requires (λ k h. c.loop-i.invariant.1 k (omega (arith, c.loop-i-test.false))))

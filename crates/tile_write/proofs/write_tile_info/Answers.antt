@@ -88,24 +88,24 @@ made c =
     let f = (begin c).ranges in
     rw (to_z-of_z f.sbmul, to_z-of_z f.w, to_z-of_z f.h) at c.tile_args-a.ensures
 
-domain_asked : (c : goal.After-refused) → c.in_domain_lem.result ≡ in_domain (given (begin c))
-domain_asked c = c.in_domain_lem.ensures ∙ ap in_domain (made c)
+domain_asked : (c : goal.After-refused) → c.in_domain.result ≡ in_domain (given (begin c))
+domain_asked c = c.in_domain.ensures ∙ ap in_domain (made c)
 
 pub returns-then-not-in_domain : goal.returns-then-not-in_domain
 unfolding write_tile_info
 returns-then-not-in_domain c =
-    let d = c in
-    let b = begin d in
-    promised (given b) b.args.t b.args.out.now
-    (ap (λ (w : Written). (w, b.args.out.now)) c.refused.ensures ∙ sym (left _ _ _ (sym (domain_asked d) ∙ not-true _ c.if-not-in_domain.true)))
+    let b = begin c in
+    let w = promised (given b) b.args.t b.args.out.now
+    (ap (λ (w : Written). (w, b.args.out.now)) c.refused.ensures ∙ sym (left _ _ _ (sym (domain_asked c) ∙ not-true _ c.if-not-in_domain.true))) in
+    record { out_after = w.0; writing = w.1 }
 
 pub returns-then-not-reads_as : goal.returns-then-not-reads_as
 unfolding write_tile_info
 returns-then-not-reads_as c =
-    let q = c in
-    promised (given (s q)) (s q).args.t (s q).args.out.now
-    (ap (λ (w : Written). (w, (s q).args.out.now)) c.refused-then-not-reads_as.ensures
-    ∙ sym (taken _ _ _ (in_it q) ∙ left _ _ _ (sym (question q) ∙ not-true _ c.if-not-reads_as.true)))
+    let w = promised (given (s c)) (s c).args.t (s c).args.out.now
+    (ap (λ (w : Written). (w, (s c).args.out.now)) c.refused-then-not-reads_as.ensures
+    ∙ sym (taken _ _ _ (in_it c) ∙ left _ _ _ (sym (question c) ∙ not-true _ c.if-not-reads_as.true))) in
+    record { out_after = w.0; writing = w.1 }
 
 pub overflow_add-n : goal.overflow_add-n
 overflow_add-n k = omega (arith, bits k, short (a k) (t k) (some k))
@@ -113,12 +113,12 @@ overflow_add-n k = omega (arith, bits k, short (a k) (t k) (some k))
 pub returns-then-out-n : goal.returns-then-out-n
 unfolding write_tile_info
 returns-then-out-n c =
-    let k = c in
-    let o = (s k).args.out.now in
-    let n : length o < byte_count (layout_bits (a k) (t k)) = rw (bits k) at c.if-out-n.true in
-    promised (a k) (t k) o
+    let o = (s c).args.out.now in
+    let n : length o < byte_count (layout_bits (a c) (t c)) = rw (bits c) at c.if-out-n.true in
+    let w = promised (a c) (t c) o
     (ap (λ (w : Written). (w, o)) c.refused-then-out-n.ensures
-    ∙ sym (taken _ _ _ (in_it k) ∙ taken _ _ _ (good k) ∙ left _ _ _ (lt-leb (byte_count (layout_bits (a k) (t k))) (length o) n)))
+    ∙ sym (taken _ _ _ (in_it c) ∙ taken _ _ _ (good c) ∙ left _ _ _ (lt-leb (byte_count (layout_bits (a c) (t c))) (length o) n))) in
+    record { out_after = w.0; writing = w.1 }
 
 pub slice_bounds-put_bytes-end : goal.slice_bounds-put_bytes-end
 slice_bounds-put_bytes-end c = let k = (asked-room c).before in sym (ap length (bytes k.before) ∙ bytes_length 177 (row_of (a k) (t k)))
@@ -131,15 +131,15 @@ put_bytes-requires c =
 pub returns : goal.returns
 unfolding write_tile_info
 returns c =
-    let p = c in
-    let k = (asked-room p).before in
+    let k = (asked-room c).before in
     let row = layout_bits (a k) (t k) in
     let o = (s k.before).args.out.now in
-    let n : byte_count row ≤ length o = omega (arith, bits k, (asked-room p).if3.false) in
+    let n : byte_count row ≤ length o = omega (arith, bits k, (asked-room c).if3.false) in
     let x = bytes k.before ∙ ap (bytes_of 177) (row_known (a k) (t k) (some k)) in
-    let out = p.put_bytes.ensures
+    let out = c.put_bytes.ensures
     ∙ ap₂ (λ (m : ℕ) (y : List ℕ). take ((m + 7) / 8) y ++ drop ((m + 7) / 8) o) (bits k) x
     ∙ ap (λ (y : List ℕ). y ++ drop (byte_count row) o) (bytes_take (byte_count row) 177 row (omega (arith, short (a k) (t k) (some k)))) in
-    promised (a k) (t k) o
+    let w = promised (a k) (t k) o
     (ap₂ (λ (m : ℕ) (y : List ℕ). (record { answer = Accepted; bits = m }, y)) (bits k) out
-    ∙ sym (taken _ _ _ (in_it k.before) ∙ taken _ _ _ (good k) ∙ taken _ _ _ (le-leb (byte_count row) (length o) n)))
+    ∙ sym (taken _ _ _ (in_it k.before) ∙ taken _ _ _ (good k) ∙ taken _ _ _ (le-leb (byte_count row) (length o) n))) in
+    record { out_after = w.0; writing = w.1 }

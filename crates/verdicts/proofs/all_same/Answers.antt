@@ -9,7 +9,7 @@ pub returns-then-ours-stored : goal.returns-then-ours-stored
 returns-then-ours-stored c =
     let a = c.args in
     let e = other_count a.ours.now a.stored.now c.if-ours-stored.true in
-    (e, told a.ours.now a.stored.now _ e)
+    record { equation = e; tells = told a.ours.now a.stored.now _ e }
 
 pub loop-i-init : goal.loop-i-init
 loop-i-init c =
@@ -27,4 +27,4 @@ returns c =
     let l = c.loop-i in
     let a = c.args in
     let e = at_end a.ours.now a.stored.now l.good l.i (omega arith) (omega arith) l.invariant.2 in
-    (e, told a.ours.now a.stored.now _ e)
+    record { equation = e; tells = told a.ours.now a.stored.now _ e }

@@ -19,5 +19,4 @@ overflow_cast-result-2 c = rw (read c) (wide c)
 
 pub returns : goal.returns
 returns c =
-    let s = c in
-    rw (read c) (either_way s.args.ours c.signed.result s.args.stored s.ranges.ours (wide c) s.ranges.stored c.signed.ensures)
+    rw (read c) (either_way c.args.ours c.signed.result c.args.stored c.ranges.ours (wide c) c.ranges.stored c.signed.ensures)

@@ -7,7 +7,4 @@ use Rattle.write.proofs.put_bits.Goals as goal
 pub returns : goal.returns
 unfolding bits_text word
 returns c =
-    let end = c in
-    let bytes = end in
-    let first = bytes in
-    within (omega arith) (also first.put_line-first.ensures (also bytes.put_bytes-end.ensures end.put_byte.ensures))
+    within (omega arith) (also c.put_line-first.ensures (also c.put_bytes-end.ensures c.put_byte.ensures))

@@ -16,15 +16,12 @@ overflow_cast-bytes c = omega (arith, c.shared_slice_known-in-loop-i-1.given c.l
 
 pub loop-i-preserved : goal.loop-i-preserved
 loop-i-preserved c =
-    let b = c in
-    let l = b in
-    (search rules, rw (row_more l.args.bytes.now l.loop-i.i (search rules)) (within (omega arith) (also l.loop-i.invariant.1 b.put_item-next.ensures)))
+    (search rules, rw (row_more c.args.bytes.now c.loop-i.i (search rules)) (within (omega arith) (also c.loop-i.invariant.1 c.put_item-next.ensures)))
 
 pub returns : goal.returns
 returns c =
-    let l = c in
-    let done : l.loop-i.i ≡ l.args.n = omega arith in
-    rw (← done) l.loop-i.invariant.1
+    let done : c.loop-i.i ≡ c.args.n = omega arith in
+    rw (← done) c.loop-i.invariant.1
 
 pub shape_of-out : goal.shape_of-out
 shape_of-out c = kept c.loop-i.invariant.1

@@ -12,6 +12,5 @@ slice_bounds-put_written-end c = sym (length-take-le _ _ (search rules))
 pub returns : goal.returns
 unfolding request_text
 returns c =
-    let p = c in
-    let n = p.two_at-size in
-    rw (← n.ensures.0, ← front 0 n.result 65535 (omega (arith, n.ensures.1))) p.Put-written.ensures
+    let n = c.two_at-size in
+    rw (← n.ensures.0, ← front 0 n.result 65535 (omega (arith, n.ensures.1))) c.Put-written.ensures

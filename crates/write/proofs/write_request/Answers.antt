@@ -8,14 +8,10 @@ use Rattle.write.proofs.write_request.Goals as goal
 
 pub returns : goal.returns
 returns c =
-    let p = c in
-    let height = p in
-    let width = height in
-    let pair = width in
-    let t = pair.given_layout-t in
-    let m = pair.multiplier-sbmul in
-    let w = width.samples-w in
-    let h = height.samples-h in
-    let s = pair.args.s.now in
+    let t = c.given_layout-t in
+    let m = c.multiplier-sbmul in
+    let w = c.samples-w in
+    let h = c.samples-h in
+    let s = c.args.s.now in
     let rest : take (length s - 8) (drop 8 s) ≡ drop 8 s = take_all (length s - 8) (drop 8 s) (simp length-drop (omega arith)) in
-    rw (back m.result m.type_inv, back w.result w.type_inv, back h.result h.type_inv, m.ensures, w.ensures, h.ensures, t.ensures, rest) at p.write_tile_info.ensures.out_after
+    rw (back m.result m.type_inv, back w.result w.type_inv, back h.result h.type_inv, m.ensures, w.ensures, h.ensures, t.ensures, rest) at c.write_tile_info.ensures.out_after

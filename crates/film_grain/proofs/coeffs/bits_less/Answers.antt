@@ -14,9 +14,7 @@ back c = search rules
 
 pub minus-requires : goal.minus-requires
 minus-requires c =
-    let r = c in
-    let s = r in
-    (omega (arith, at_most _ _ s.args.n 9 s.requires.0 r.read_bits-r.ensures), s.requires.1)
+    (omega (arith, at_most _ _ c.args.n 9 c.requires.0 c.read_bits-r.ensures), c.requires.1)
 
 pub returns : goal.returns
 unfolding bits_less

@@ -9,8 +9,7 @@ use Rattle.film_grain.proofs.coeffs.centred.Goals as goal
 
 fits : (c : goal.After-minus) → SFits w8 c.minus.result
 fits c =
-    let s = c in
-    record { sfits = rw c.minus.ensures (omega (arith, difference s.args.v s.args.half s.args.half (omega (arith, s.requires.0)) (omega arith) (omega (arith, s.requires.0)), s.requires.1)) }
+    record { sfits = rw c.minus.ensures (omega (arith, difference c.args.v c.args.half c.args.half (omega (arith, c.requires.0)) (omega arith) (omega (arith, c.requires.0)), c.requires.1)) }
 
 back : (c : goal.After-minus) → to_z w16 (of_z w16 c.minus.result) ≡ c.minus.result
 back c = search rules

@@ -18,13 +18,9 @@ back_2 c = search rules
 pub returns : goal.returns
 unfolding chroma_offsets
 returns c =
-    let v = c in
-    let has-v = v in
-    let u = has-v in
-    let has-u = u in
-    let bu = back u in
-    let bv = back_2 v in
-    rw (← has-u.has_points.ensures, ← has-v.has_points-2.ensures)
-    (sym (through _ _ u.offsets_if-u.ensures
-    ∙ through _ _ v.offsets_if-v.ensures
+    let bu = back c in
+    let bv = back_2 c in
+    rw (← c.has_points.ensures, ← c.has_points-2.ensures)
+    (sym (through _ _ c.offsets_if-u.ensures
+    ∙ through _ _ c.offsets_if-v.ensures
     ∙ sym (simp (bu.0, bu.1, bu.2, bv.0, bv.1, bv.2))))

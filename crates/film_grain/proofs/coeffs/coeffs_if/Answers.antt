@@ -6,9 +6,7 @@ use Rattle.film_grain.proofs.coeffs.coeffs_if.Goals as goal
 pub returns-then-cond : goal.returns-then-cond
 unfolding coeffs_if
 returns-then-cond c =
-    let r = c in
-    let b = r in
-    rw b.if-cond.true (sym (through _ _ b.get_small-b.ensures.is ∙ sym r.read_coeffs.ensures))
+    rw c.if-cond.true (sym (through _ _ c.get_small-b.ensures.is ∙ sym c.read_coeffs.ensures))
 
 pub returns : goal.returns
 unfolding coeffs_if

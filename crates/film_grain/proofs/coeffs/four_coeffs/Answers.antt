@@ -68,14 +68,13 @@ twice n h =
 
 -- the rest of a division
 rest : (c : goal.After-power-low) (x : ℕ) → x % c.power-low.result < 2 * c.args.half
-rest c x = let s = c in rw (low c) (omega (arith, mod-lt x (pow_pos s.args.coef_bits), range s))
+rest c x = rw (low c) (omega (arith, mod-lt x (pow_pos c.args.coef_bits), range c))
 
 -- a coefficient out of such a rest
 centred_rest : (c : goal.After-power-low) (x : ℕ) {r : ℤ} → let a = c.args in
     r ≡ pos (x % c.power-low.result) -ℤ pos a.half → r ≡ pos (x % 2 ^ a.coef_bits) -ℤ pos (2 ^ (a.coef_bits - 1))
 centred_rest c x e =
-    let s = c in
-    e ∙ ap (λ (m : ℕ). pos (x % m) -ℤ pos s.args.half) (low c) ∙ ap (λ (h : ℕ). pos (x % 2 ^ s.args.coef_bits) -ℤ pos h) s.requires.2
+    e ∙ ap (λ (m : ℕ). pos (x % m) -ℤ pos c.args.half) (low c) ∙ ap (λ (h : ℕ). pos (x % 2 ^ c.args.coef_bits) -ℤ pos h) c.requires.2
 
 range : (s : goal.After-power-low) → 2 * s.args.half ≡ 2 ^ s.args.coef_bits
 range s = omega (arith, twice s.args.coef_bits s.requires.0, s.requires.2)
@@ -96,15 +95,14 @@ back_4 c = search rules
 pub centred-requires : goal.centred-requires
 centred-requires c =
     let small_half : c.args.half ≤ 128 = omega (arith, c.requires.2, pow_mono {i = c.args.coef_bits - 1} {j = 7} (omega (arith, c.requires.1))) in
-    let all_bits_lem : let a = c.args in c.look_ahead-w.result ≡ bits_at a.s.now (position a.s.now a.p) (4 * a.coef_bits) = let s = c in look_bits s.args.s.now s.args.p (4 * s.args.coef_bits) (omega (arith, s.requires.1)) c.look_ahead-w.ensures in
-    let s = c in
-    let a = s.args in
-    (omega (arith, first_lt a.s.now a.p a.coef_bits c.look_ahead-w.result s.requires.1 s.requires.4 (all_bits_lem), range s), small_half)
+    let all_bits_lem : let a = c.args in c.look_ahead-w.result ≡ bits_at a.s.now (position a.s.now a.p) (4 * a.coef_bits) = look_bits c.args.s.now c.args.p (4 * c.args.coef_bits) (omega (arith, c.requires.1)) c.look_ahead-w.ensures in
+    let a = c.args in
+    (omega (arith, first_lt a.s.now a.p a.coef_bits c.look_ahead-w.result c.requires.1 c.requires.4 (all_bits_lem), range c), small_half)
 
 pub centred-requires-2 : goal.centred-requires-2
 centred-requires-2 c =
     let small_half : c.args.half ≤ 128 = omega (arith, c.requires.2, pow_mono {i = c.args.coef_bits - 1} {j = 7} (omega (arith, c.requires.1))) in
-    let k = c in (rest k _, small_half)
+    (rest c _, small_half)
 
 pub bounds-coeffs-i-2 : goal.bounds-coeffs-i-2
 bounds-coeffs-i-2 c = simp length-set (omega (arith, c.requires.3))
@@ -112,7 +110,7 @@ bounds-coeffs-i-2 c = simp length-set (omega (arith, c.requires.3))
 pub centred-requires-3 : goal.centred-requires-3
 centred-requires-3 c =
     let small_half : c.args.half ≤ 128 = omega (arith, c.requires.2, pow_mono {i = c.args.coef_bits - 1} {j = 7} (omega (arith, c.requires.1))) in
-    let k = c in (rest k _, small_half)
+    (rest c _, small_half)
 
 pub bounds-coeffs-i-3 : goal.bounds-coeffs-i-3
 bounds-coeffs-i-3 c = simp length-set (omega (arith, c.requires.3))
@@ -120,25 +118,19 @@ bounds-coeffs-i-3 c = simp length-set (omega (arith, c.requires.3))
 pub centred-requires-4 : goal.centred-requires-4
 centred-requires-4 c =
     let small_half : c.args.half ≤ 128 = omega (arith, c.requires.2, pow_mono {i = c.args.coef_bits - 1} {j = 7} (omega (arith, c.requires.1))) in
-    let k = c in (rest k _, small_half)
+    (rest c _, small_half)
 
 pub bounds-coeffs-i-4 : goal.bounds-coeffs-i-4
 bounds-coeffs-i-4 c = simp length-set (omega (arith, c.requires.3))
 
 pub returns : goal.returns
 returns c =
-    let all_bits_lem : let a = c.args in c.look_ahead-w.result ≡ bits_at a.s.now (position a.s.now a.p) (4 * a.coef_bits) = let s = c in look_bits s.args.s.now s.args.p (4 * s.args.coef_bits) (omega (arith, s.requires.1)) c.look_ahead-w.ensures in
-    let k4 = c in
-    let k3 = k4 in
-    let k2 = k3 in
-    let k1 = k2 in
-    let k = k1 in
-    let s = k in
-    let a = s.args in
-    let w = k.look_ahead-w.result in
-    let v1 = k1.centred.ensures ∙ ap (λ (h : ℕ). pos (w / 2 ^ (3 * a.coef_bits)) -ℤ pos h) s.requires.2 in
-    let v2 = centred_rest k (w / 2 ^ (2 * a.coef_bits)) k2.centred-2.ensures in
-    let v3 = centred_rest k (w / 2 ^ a.coef_bits) k3.centred-3.ensures in
-    let v4 = centred_rest k w k4.centred-4.ensures in
-    rw (back k1 ∙ v1, back_2 k2 ∙ v2, back_3 k3 ∙ v3, back_4 k4 ∙ v4, skip_there a.s.now a.p (4 * a.coef_bits) s.requires.4 c.skip.ensures)
-    (four a.s.now a.p a.coef_bits w s.requires.1 s.requires.4 (all_bits_lem) a.i a.coeffs.now)
+    let all_bits_lem : let a = c.args in c.look_ahead-w.result ≡ bits_at a.s.now (position a.s.now a.p) (4 * a.coef_bits) = look_bits c.args.s.now c.args.p (4 * c.args.coef_bits) (omega (arith, c.requires.1)) c.look_ahead-w.ensures in
+    let a = c.args in
+    let w = c.look_ahead-w.result in
+    let v1 = c.centred.ensures ∙ ap (λ (h : ℕ). pos (w / 2 ^ (3 * a.coef_bits)) -ℤ pos h) c.requires.2 in
+    let v2 = centred_rest c (w / 2 ^ (2 * a.coef_bits)) c.centred-2.ensures in
+    let v3 = centred_rest c (w / 2 ^ a.coef_bits) c.centred-3.ensures in
+    let v4 = centred_rest c w c.centred-4.ensures in
+    rw (back c ∙ v1, back_2 c ∙ v2, back_3 c ∙ v3, back_4 c ∙ v4, skip_there a.s.now a.p (4 * a.coef_bits) c.requires.4 c.skip.ensures)
+    (four a.s.now a.p a.coef_bits w c.requires.1 c.requires.4 (all_bits_lem) a.i a.coeffs.now)

@@ -57,28 +57,21 @@ pub returns-then-more_than : goal.returns-then-more_than
 unfolding offsets_if
 returns-then-more_than c =
     let all_bits_lem : let a = c.args in c.look_ahead-w.result ≡ bits_at a.s.now (position a.s.now a.p) 25 = let a = c.args in look_bits a.s.now a.p 25 (omega arith) c.look_ahead-w.ensures in
-    let k3 = c in
-    let k2 = k3 in
-    let k1 = k2 in
-    let k = k1 in
-    let a = k.args in
-    let w = k.look_ahead-w.result in
-    rw (k.if-cond.true, back k1, back_2 k2, back_3 k3, k1.minus.ensures, k2.minus-then-more_than.ensures, k3.minus-then-more_than-2.ensures, skip_there a.s.now a.p 25 (room k) c.skip.ensures)
-    (sym (through _ _ (mult a.s.now a.p w (room k) (all_bits_lem))
-    ∙ through _ _ (luma_mult a.s.now a.p w (room k) (all_bits_lem))
-    ∙ through _ _ (offset a.s.now a.p w (room k) (all_bits_lem))))
+    let a = c.args in
+    let w = c.look_ahead-w.result in
+    rw (c.if-cond.true, back c, back_2 c, back_3 c, c.minus.ensures, c.minus-then-more_than.ensures, c.minus-then-more_than-2.ensures, skip_there a.s.now a.p 25 (room c) c.skip.ensures)
+    (sym (through _ _ (mult a.s.now a.p w (room c) (all_bits_lem))
+    ∙ through _ _ (luma_mult a.s.now a.p w (room c) (all_bits_lem))
+    ∙ through _ _ (offset a.s.now a.p w (room c) (all_bits_lem))))
 
 pub returns-then-cond : goal.returns-then-cond
 unfolding offsets_if
 returns-then-cond c =
-    let o = c in
-    let l = o in
-    let m = l in
-    rw m.if-cond.true
-    (sym (through _ _ m.bits_less-mult.ensures
-    ∙ through _ _ l.bits_less-luma_mult.ensures
-    ∙ through _ _ o.bits_less-offset.ensures
-    ∙ sym (simp (back_4 m, back_5 l, back_6 o))))
+    rw c.if-cond.true
+    (sym (through _ _ c.bits_less-mult.ensures
+    ∙ through _ _ c.bits_less-luma_mult.ensures
+    ∙ through _ _ c.bits_less-offset.ensures
+    ∙ sym (simp (back_4 c, back_5 c, back_6 c))))
 
 pub returns : goal.returns
 unfolding offsets_if

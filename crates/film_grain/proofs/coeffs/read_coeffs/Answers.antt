@@ -36,19 +36,16 @@ four_more n f a =
     ∙ ap (f (n + 3)) (ap t e3 ∙ turns_more (n + 2) f a ∙ ap (f (n + 2)) (ap t e2 ∙ turns_more (n + 1) f a ∙ ap (f (n + 1)) (turns_more n f a)))
 
 -- a coefficient
-read : (c : goal.After-bits_less-c invariant-loop decreases-loop) → let l = c in let a = l.args in
-    c.bits_less-c.result ≡ bits_less a.s.now l.loop-i.next a.coef_bits (2 ^ (a.coef_bits - 1))
+read : (c : goal.After-bits_less-c invariant-loop decreases-loop) → let a = c.args in
+    c.bits_less-c.result ≡ bits_less a.s.now c.loop-i.next a.coef_bits (2 ^ (a.coef_bits - 1))
 read c =
-    let l = c in
-    let a = l.args in
-    c.bits_less-c.ensures ∙ ap (bits_less a.s.now l.loop-i.next a.coef_bits) (half l)
+    let a = c.args in
+    c.bits_less-c.ensures ∙ ap (bits_less a.s.now c.loop-i.next a.coef_bits) (half c)
 
 fits : (c : goal.After-bits_less-c invariant-loop decreases-loop) → SFits w8 c.bits_less-c.result.value
 fits c =
-    let l = c in
-    let s = l in
-    let a = s.args in
-    record { sfits = rw (read c) (omega (arith, half_range a.s.now l.loop-i.next a.coef_bits s.requires.1, half l, small l)) }
+    let a = c.args in
+    record { sfits = rw (read c) (omega (arith, half_range a.s.now c.loop-i.next a.coef_bits c.requires.1, half c, small c)) }
 
 back : (c : goal.After-bits_less-c invariant-loop decreases-loop) → to_z w16 (of_z w16 c.bits_less-c.result.value) ≡ c.bits_less-c.result.value
 back c = search rules
@@ -59,55 +56,45 @@ loop-i-init c = let z = c.requires.3 in (omega arith, rw z refl, rw z refl)
 
 pub four_coeffs-next-requires : goal.four_coeffs-next-requires
 four_coeffs-next-requires c =
-    let l = c in
-    let s = l in
-    let m = c in
-    let t = both (leb (l.loop-i.i + 4) s.args.n) m.more_than.result c.if-i-n.true in
-    (s.requires.1, s.requires.2, half l, omega (arith, leb-true (l.loop-i.i + 4) s.args.n t.0, s.requires.0, l.loop-i.invariant.1), more_there s.args.s.now l.loop-i.next (4 * s.args.coef_bits) m.more_than.ensures t.1)
+    let t = both (leb (c.loop-i.i + 4) c.args.n) c.more_than.result c.if-i-n.true in
+    (c.requires.1, c.requires.2, half c, omega (arith, leb-true (c.loop-i.i + 4) c.args.n t.0, c.requires.0, c.loop-i.invariant.1), more_there c.args.s.now c.loop-i.next (4 * c.args.coef_bits) c.more_than.ensures t.1)
 
 pub overflow_mul-coef_bits : goal.overflow_mul-coef_bits
 overflow_mul-coef_bits c = omega (arith, c.requires.2)
 
 pub overflow_add-i-then-i-n : goal.overflow_add-i-then-i-n
 overflow_add-i-then-i-n c =
-    let l = c in
-    omega (arith, leb-true (l.loop-i.i + 4) l.args.n (both _ _ c.if-i-n.true).0, l.requires.0)
+    omega (arith, leb-true (c.loop-i.i + 4) c.args.n (both _ _ c.if-i-n.true).0, c.requires.0)
 
 pub loop-i-smaller-then-i-n : goal.loop-i-smaller-then-i-n
 loop-i-smaller-then-i-n c =
-    let l = c in
-    omega (arith, leb-true (l.loop-i.i + 4) l.args.n (both _ _ c.if-i-n.true).0)
+    omega (arith, leb-true (c.loop-i.i + 4) c.args.n (both _ _ c.if-i-n.true).0)
 
 pub loop-i-preserved-then-i-n : goal.loop-i-preserved-then-i-n
 loop-i-preserved-then-i-n c =
-    let r = c in
-    let l = c in
-    let s = l in
-    let f = coeff s.args.s.now s.args.coef_bits in
-    let start = no_coeffs s.args.p in
-    let i = l.loop-i.i in (
-      leb-true (i + 4) s.args.n (both _ _ c.if-i-n.true).0,
-      omega (arith, l.loop-i.invariant.1),
-      r.four_coeffs-next.ensures ∙ ap (λ (x : CoeffsRead). f (i + 3) (f (i + 2) (f (i + 1) (f i x)))) l.loop-i.invariant.2 ∙ sym (four_more i f start),
+    let f = coeff c.args.s.now c.args.coef_bits in
+    let start = no_coeffs c.args.p in
+    let i = c.loop-i.i in (
+      leb-true (i + 4) c.args.n (both _ _ c.if-i-n.true).0,
+      omega (arith, c.loop-i.invariant.1),
+      c.four_coeffs-next.ensures ∙ ap (λ (x : CoeffsRead). f (i + 3) (f (i + 2) (f (i + 1) (f i x)))) c.loop-i.invariant.2 ∙ sym (four_more i f start),
     )
 
 pub bits_less-c-requires : goal.bits_less-c-requires
-bits_less-c-requires c = let p = c in (omega (arith, p.requires.2), omega (arith, small p))
+bits_less-c-requires c = (omega (arith, c.requires.2), omega (arith, small c))
 
 pub overflow_cast-coeffs : goal.overflow_cast-coeffs
-overflow_cast-coeffs c = let r = c in rw (back r) (fits r)
+overflow_cast-coeffs c = rw (back c) (fits c)
 
 pub bounds-coeffs-i : goal.bounds-coeffs-i
-bounds-coeffs-i c = let l = c in omega (arith, l.loop-i.invariant.1, l.requires.0)
+bounds-coeffs-i c = omega (arith, c.loop-i.invariant.1, c.requires.0)
 
 pub loop-i-preserved : goal.loop-i-preserved
 unfolding coeff
-loop-i-preserved c =
-    let r = c in
-    let l = r in (
+loop-i-preserved c =(
       omega arith,
-      simp length-set l.loop-i.invariant.1,
-      rw (back r, to_z-of_z w8 _ (fits r)) (sym (turns_more _ _ _ ∙ ap (coeff _ _ _) (sym l.loop-i.invariant.2) ∙ through _ _ (read r))),
+      simp length-set c.loop-i.invariant.1,
+      rw (back c, to_z-of_z w8 _ (fits c)) (sym (turns_more _ _ _ ∙ ap (coeff _ _ _) (sym c.loop-i.invariant.2) ∙ through _ _ (read c))),
     )
 
 pub shape_of-coeffs : goal.shape_of-coeffs
@@ -116,7 +103,6 @@ shape_of-coeffs c = c.loop-i.invariant.1 ∙ sym (rw c.requires.3 refl)
 pub returns : goal.returns
 unfolding coeffs_from
 returns c =
-    let l = c in
-    let a = l.args in
-    let e : l.loop-i.i ≡ a.n = omega arith in
-    l.loop-i.invariant.2 ∙ ap (λ (m : ℕ). turns m (coeff a.s.now a.coef_bits) (no_coeffs a.p)) e
+    let a = c.args in
+    let e : c.loop-i.i ≡ a.n = omega arith in
+    c.loop-i.invariant.2 ∙ ap (λ (m : ℕ). turns m (coeff a.s.now a.coef_bits) (no_coeffs a.p)) e

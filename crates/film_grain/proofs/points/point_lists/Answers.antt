@@ -7,20 +7,13 @@ use Rattle.film_grain.proofs.points.point_lists.Goals as goal
 
 pub shape_of-y_list : goal.shape_of-y_list
 shape_of-y_list c =
-    let v = c in
-    let u = v in
-    u.points_if-y.auto.1.1.1.0
+    c.points_if-y.auto.1.1.1.0
 
 pub returns : goal.returns
 unfolding point_lists
 returns c =
-    let v = c in
-    let u = v in
-    let y = u in
-    let e = through _ _ y.points_if-y.ensures ∙ through _ _ u.points_if-u.ensures ∙ through _ _ v.points_if-v.ensures in (
-      sym (ap lists_end e),
-      λ h.
-          let k = neither y.points_if-y.result.refused _ h in
-          let l = neither u.points_if-u.result.refused v.points_if-v.result.refused k.1 in
-          sym (ap (λ (x : PointLists). x.points) e ∙ rw (k.0, l.0, l.1)),
-    )
+    let e = through _ _ c.points_if-y.ensures ∙ through _ _ c.points_if-u.ensures ∙ through _ _ c.points_if-v.ensures in
+    record { value = sym (ap lists_end e); v_list_after = λ h.
+          let k = neither c.points_if-y.result.refused _ h in
+          let l = neither c.points_if-u.result.refused c.points_if-v.result.refused k.1 in
+          sym (ap (λ (x : PointLists). x.points) e ∙ rw (k.0, l.0, l.1)) }

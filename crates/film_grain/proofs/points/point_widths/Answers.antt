@@ -61,17 +61,15 @@ pub returns-then-n : goal.returns-then-n
 returns-then-n c =
     let room : let a = c.args in position a.s.now a.p + 9 ≤ bit_count a.s.now = let a = c.args in more_there a.s.now a.p 9 c.more_than.ensures c.if-more_than.true in
     let nine : let a = c.args in c.look_ahead-w.result ≡ bits_at a.s.now (position a.s.now a.p) 9 = let a = c.args in look_bits a.s.now a.p 9 (omega arith) c.look_ahead-w.ensures in
-    let k = c in
-    let a = k.args in
-    rw (skip_there a.s.now a.p 4 (omega (arith, room)) c.skip.ensures) (without a.s.now a.p _ 1 5 (count a.s.now a.p k.look_ahead-w.result (room) (nine)) c.if-n.true, search rules)
+    let a = c.args in
+    rw (skip_there a.s.now a.p 4 (omega (arith, room)) c.skip.ensures) (without a.s.now a.p _ 1 5 (count a.s.now a.p c.look_ahead-w.result (room) (nine)) c.if-n.true, search rules)
 
 pub returns-then-more_than : goal.returns-then-more_than
 returns-then-more_than c =
     let room : let a = c.args in position a.s.now a.p + 9 ≤ bit_count a.s.now = let a = c.args in more_there a.s.now a.p 9 c.more_than.ensures c.if-more_than.true in
     let nine : let a = c.args in c.look_ahead-w.result ≡ bits_at a.s.now (position a.s.now a.p) 9 = let a = c.args in look_bits a.s.now a.p 9 (omega arith) c.look_ahead-w.ensures in
-    let k = c in
-    let a = k.args in
-    let w = k.look_ahead-w.result in
+    let a = c.args in
+    let w = c.look_ahead-w.result in
     rw (skip_there a.s.now a.p 9 (room) c.skip-then-more_than.ensures) (
       with_widths a.s.now a.p _ _ _ (count a.s.now a.p w (room) (nine)) (index a.s.now a.p w (room) (nine)) (scaling a.s.now a.p w (room) (nine)) c.if-n.false,
       (omega arith, omega arith, omega arith, omega arith),
@@ -79,14 +77,8 @@ returns-then-more_than c =
 
 pub returns-then-n-2 : goal.returns-then-n-2
 returns-then-n-2 c =
-    let n = c in
-    (without _ _ _ 1 5 n.get_small-n.ensures.is c.if-n-2.true, search rules)
+    (without _ _ _ 1 5 c.get_small-n.ensures.is c.if-n-2.true, search rules)
 
 pub returns : goal.returns
 returns c =
-    let scaling = c in
-    let index = scaling in
-    let n = index in (
-      with_widths _ _ _ _ _ n.get_small-n.ensures.is index.get_small-index.ensures.is scaling.get_small-scaling.ensures.is index.if-n-2.false,
-      (omega arith, omega (arith, index.get_small-index.ensures.below), omega arith, omega (arith, scaling.get_small-scaling.ensures.below)),
-    )
+    record { p_value = with_widths _ _ _ _ _ c.get_small-n.ensures.is c.get_small-index.ensures.is c.get_small-scaling.ensures.is c.if-n-2.false; bound = (omega arith, omega (arith, c.get_small-index.ensures.below), omega arith, omega (arith, c.get_small-scaling.ensures.below)) }

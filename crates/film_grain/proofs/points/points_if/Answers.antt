@@ -4,7 +4,7 @@ use Rattle.film_grain.proofs.points.points_if.Goals as goal
 
 pub returns-then-cond : goal.returns-then-cond
 unfolding points_if
-returns-then-cond c = let r = c in rw r.if-cond.true r.plane_points.ensures
+returns-then-cond c = rw c.if-cond.true c.plane_points.ensures
 
 pub returns-else-cond : goal.returns-else-cond
 unfolding points_if

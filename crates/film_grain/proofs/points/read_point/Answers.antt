@@ -16,23 +16,19 @@ room c = let a = c.args in more_there a.s.now a.p (a.index_bits + a.scaling_bits
 pub overflow_cast-result : goal.overflow_cast-result
 overflow_cast-result c =
     let low : c.power.result ≡ 2 ^ c.args.scaling_bits = power_below (omega (arith, c.requires.3)) c.power.ensures.0 in
-    let s = c in
-    let n = s.args.scaling_bits in
-    record { fits = rw (low) (omega (arith, mod-lt c.look_ahead-w.result (pow_pos n), pow_mono {i = n} {j = 8} s.requires.3)) }
+    let n = c.args.scaling_bits in
+    record { fits = rw (low) (omega (arith, mod-lt c.look_ahead-w.result (pow_pos n), pow_mono {i = n} {j = 8} c.requires.3)) }
 
 pub returns-then-more_than : goal.returns-then-more_than
 returns-then-more_than c =
     let low : c.power.result ≡ 2 ^ c.args.scaling_bits = power_below (omega (arith, c.requires.3)) c.power.ensures.0 in
-    let k = c in
-    let s = k in
-    let a = s.args in
-    let w = k.look_ahead-w.result in
-    let e = look_bits a.s.now a.p (a.index_bits + a.scaling_bits) (omega (arith, s.requires.1, s.requires.3)) k.look_ahead-w.ensures in
-    let step = first_read a.s.now a.p a.index_bits a.scaling_bits w (room k) e (omega (arith, s.requires.1)) in
-    let value = last_read a.s.now a.p a.index_bits a.scaling_bits w (room k) e (omega (arith, s.requires.3)) in
-    rw (low, skip_there a.s.now a.p (a.index_bits + a.scaling_bits) (room k) c.skip.ensures, step) (refl, sym (uncut _ _ a.scaling_bits s.requires.3 value))
+    let a = c.args in
+    let w = c.look_ahead-w.result in
+    let e = look_bits a.s.now a.p (a.index_bits + a.scaling_bits) (omega (arith, c.requires.1, c.requires.3)) c.look_ahead-w.ensures in
+    let step = first_read a.s.now a.p a.index_bits a.scaling_bits w (room c) e (omega (arith, c.requires.1)) in
+    let value = last_read a.s.now a.p a.index_bits a.scaling_bits w (room c) e (omega (arith, c.requires.3)) in
+    rw (low, skip_there a.s.now a.p (a.index_bits + a.scaling_bits) (room c) c.skip.ensures, step) (refl, sym (uncut _ _ a.scaling_bits c.requires.3 value))
 
 pub returns : goal.returns
 returns c =
-    let r = c in
-    rw (← r.read_bits-step.ensures) (refl, c.get_small-value.ensures.is)
+    rw (← c.read_bits-step.ensures) (refl, c.get_small-value.ensures.is)

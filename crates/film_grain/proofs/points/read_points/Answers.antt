@@ -44,10 +44,7 @@ read_point-r-requires c =
 
 pub overflow_add-base : goal.overflow_add-base
 overflow_add-base c =
-    let r = c in
-    let l = r in
-    let s = l in
-    omega (arith, r.read_point-r.ensures.step_value, at_most s.args.s.now l.loop-i.next s.args.index_bits 8 s.requires.2 refl, l.loop-i.invariant.1)
+    omega (arith, c.read_point-r.ensures.step_value, at_most c.args.s.now c.loop-i.next c.args.index_bits 8 c.requires.2 refl, c.loop-i.invariant.1)
 
 pub shape_of-points-then-base-gt255 : goal.shape_of-points-then-base-gt255
 shape_of-points-then-base-gt255 c = c.loop-i.invariant.2 ∙ sym (rw c.requires.5 refl)
@@ -55,42 +52,37 @@ shape_of-points-then-base-gt255 c = c.loop-i.invariant.2 ∙ sym (rw c.requires.
 pub returns-then-base-gt255 : goal.returns-then-base-gt255
 unfolding points_from
 returns-then-base-gt255 c =
-    let step = c in
-    let r = step in
-    let l = r in
-    let a = l.args in
+    let a = c.args in
     let f = point a.s.now a.index_bits a.scaling_bits in
     let start = no_points a.n false a.p in
-    let i = l.loop-i.i in
+    let i = c.loop-i.i in
     let k = a.n - (i + 1) in
-    let last : turns (i + 1) f start ≡ no_points 0 true (get_bits a.s.now l.loop-i.next (pos a.index_bits)).next =
+    let last : turns (i + 1) f start ≡ no_points 0 true (get_bits a.s.now c.loop-i.next (pos a.index_bits)).next =
     turns_more i f start
-    ∙ ap (f i) (sym l.loop-i.invariant.3)
-    ∙ over a.s.now a.index_bits a.scaling_bits i a.n l.loop-i.base l.loop-i.points l.loop-i.next r.read_point-r.ensures.step_value step.if-base-gt255.true in
+    ∙ ap (f i) (sym c.loop-i.invariant.3)
+    ∙ over a.s.now a.index_bits a.scaling_bits i a.n c.loop-i.base c.loop-i.points c.loop-i.next c.read_point-r.ensures.step_value c.if-base-gt255.true in
     let e : a.n ≡ i + 1 + k = omega arith in
-    rw (c.no_points.ensures, step.read_bits-step.ensures)
+    rw (c.no_points.ensures, c.read_bits-step.ensures)
     (sym (ap (λ (m : ℕ). turns m f start) e ∙ refused_stays a.s.now a.index_bits a.scaling_bits (i + 1) k start (ap (λ (x : PointsRead). x.refused) last) ∙ last))
 
 pub overflow_cast-points : goal.overflow_cast-points
 overflow_cast-points c = omega (arith, c.if-base-gt255.false)
 
 pub bounds-points-i : goal.bounds-points-i
-bounds-points-i c = let l = c in omega (arith, l.loop-i.invariant.2, l.requires.0)
+bounds-points-i c = omega (arith, c.loop-i.invariant.2, c.requires.0)
 
 pub bounds-points-i-in-loop-i : goal.bounds-points-i-in-loop-i
-bounds-points-i-in-loop-i c = let l = c in simp length-set (omega (arith, l.loop-i.invariant.2, l.requires.0))
+bounds-points-i-in-loop-i c = simp length-set (omega (arith, c.loop-i.invariant.2, c.requires.0))
 
 pub loop-i-preserved : goal.loop-i-preserved
 loop-i-preserved c =
-    let r = c in
-    let l = r in
-    let a = l.args in (
+    let a = c.args in (
       omega arith,
       c.if-base-gt255.false,
-      simp length-set l.loop-i.invariant.2,
+      simp length-set c.loop-i.invariant.2,
       sym (turns_more _ _ _
-          ∙ ap (point _ _ _ _) (sym l.loop-i.invariant.3)
-          ∙ under a.s.now a.index_bits a.scaling_bits l.loop-i.i a.n l.loop-i.base l.loop-i.points l.loop-i.next r.read_point-r.ensures.step_value r.read_point-r.ensures.next_value c.if-base-gt255.false),
+          ∙ ap (point _ _ _ _) (sym c.loop-i.invariant.3)
+          ∙ under a.s.now a.index_bits a.scaling_bits c.loop-i.i a.n c.loop-i.base c.loop-i.points c.loop-i.next c.read_point-r.ensures.step_value c.read_point-r.ensures.next_value c.if-base-gt255.false),
     )
 
 pub shape_of-points : goal.shape_of-points
@@ -99,7 +91,6 @@ shape_of-points c = c.loop-i.invariant.2 ∙ sym (rw c.requires.5 refl)
 pub returns : goal.returns
 unfolding points_from
 returns c =
-    let l = c in
-    let a = l.args in
-    let e : l.loop-i.i ≡ a.n = omega arith in
-    l.loop-i.invariant.3 ∙ ap (λ (m : ℕ). turns m (point a.s.now a.index_bits a.scaling_bits) (no_points a.n false a.p)) e
+    let a = c.args in
+    let e : c.loop-i.i ≡ a.n = omega arith in
+    c.loop-i.invariant.3 ∙ ap (λ (m : ℕ). turns m (point a.s.now a.index_bits a.scaling_bits) (no_points a.n false a.p)) e

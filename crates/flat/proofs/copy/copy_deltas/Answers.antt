@@ -14,15 +14,13 @@ bounds-out-i c = omega (arith, c.loop-i.invariant.long)
 
 pub loop-i-preserved : goal.loop-i-preserved
 loop-i-preserved c =
-    let l = c in
-    let a = l.args in
-    front_turned a.out.now a.xs.now (omega (arith, l.requires.0, l.requires.1)) l.loop-i.out l.loop-i.i _ (pos 0) (omega (arith, c.loop-i-test.true, l.requires.1)) (to_z-of_z {w = w16} (record { sfits = c.out-1.given })) l.loop-i.invariant
+    let a = c.args in
+    front_turned a.out.now a.xs.now (omega (arith, c.requires.0, c.requires.1)) c.loop-i.out c.loop-i.i _ (pos 0) (omega (arith, c.loop-i-test.true, c.requires.1)) (to_z-of_z {w = w16} (record { sfits = c.out-1.given })) c.loop-i.invariant
 
 pub shape_of-out : goal.shape_of-out
 shape_of-out c = c.loop-i.invariant.long
 
 pub returns : goal.returns
 returns c =
-    let l = c in
-    let a = l.args in
-    over_front_lem a.out.now a.xs.now l.loop-i.out l.loop-i.i 16 l.requires.1 c.loop-i-test.false l.loop-i.invariant
+    let a = c.args in
+    over_front_lem a.out.now a.xs.now c.loop-i.out c.loop-i.i 16 c.requires.1 c.loop-i-test.false c.loop-i.invariant

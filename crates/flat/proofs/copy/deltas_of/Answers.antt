@@ -13,12 +13,10 @@ bounds-delta_q-i c = c.loop-i-test.true
 
 pub loop-i-preserved : goal.loop-i-preserved
 loop-i-preserved c =
-    let l = c in
-    let a = l.args in
-    filled 16 a.xs.now (pos 0) l.requires l.loop-i.delta_q l.loop-i.i _ c.loop-i-test.true (to_z-of_z {w = w16} (record { sfits = c.delta_q-1.given })) l.loop-i.invariant
+    let a = c.args in
+    filled 16 a.xs.now (pos 0) c.requires c.loop-i.delta_q c.loop-i.i _ c.loop-i-test.true (to_z-of_z {w = w16} (record { sfits = c.delta_q-1.given })) c.loop-i.invariant
 
 pub returns : goal.returns
 returns c =
-    let l = c in
-    let a = l.args in
-    full 16 a.xs.now (pos 0) l.requires l.loop-i.delta_q l.loop-i.i c.loop-i-test.false l.loop-i.invariant
+    let a = c.args in
+    full 16 a.xs.now (pos 0) c.requires c.loop-i.delta_q c.loop-i.i c.loop-i-test.false c.loop-i.invariant

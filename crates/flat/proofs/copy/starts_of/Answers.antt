@@ -11,12 +11,10 @@ bounds-starts-i c = c.loop-i-test.true
 
 pub loop-i-preserved : goal.loop-i-preserved
 loop-i-preserved c =
-    let l = c in
-    let a = l.args in
-    filled 65 a.xs.now 0 l.requires l.loop-i.starts l.loop-i.i _ c.loop-i-test.true refl l.loop-i.invariant
+    let a = c.args in
+    filled 65 a.xs.now 0 c.requires c.loop-i.starts c.loop-i.i _ c.loop-i-test.true refl c.loop-i.invariant
 
 pub returns : goal.returns
 returns c =
-    let l = c in
-    let a = l.args in
-    full 65 a.xs.now 0 l.requires l.loop-i.starts l.loop-i.i c.loop-i-test.false l.loop-i.invariant
+    let a = c.args in
+    full 65 a.xs.now 0 c.requires c.loop-i.starts c.loop-i.i c.loop-i-test.false c.loop-i.invariant

@@ -18,15 +18,13 @@ bounds-out-at c = omega (arith, c.loop-i.invariant.long)
 
 pub loop-i-preserved : goal.loop-i-preserved
 loop-i-preserved c =
-    let l = c in
-    let a = l.args in
-    turned a.out.now a.at a.xs.now l.requires l.loop-i.out l.loop-i.i _ (pos 0) c.loop-i-test.true (sign_kept w8 w16 (get_or a.xs.now l.loop-i.i (pos 0)) tt c.out-1.given) l.loop-i.invariant
+    let a = c.args in
+    turned a.out.now a.at a.xs.now c.requires c.loop-i.out c.loop-i.i _ (pos 0) c.loop-i-test.true (sign_kept w8 w16 (get_or a.xs.now c.loop-i.i (pos 0)) tt c.out-1.given) c.loop-i.invariant
 
 pub shape_of-out : goal.shape_of-out
 shape_of-out c = c.loop-i.invariant.long
 
 pub returns : goal.returns
 returns c =
-    let l = c in
-    let a = l.args in
-    copied a.out.now a.at a.xs.now l.loop-i.out l.loop-i.i (length a.xs.now) refl c.loop-i-test.false l.loop-i.invariant
+    let a = c.args in
+    copied a.out.now a.at a.xs.now c.loop-i.out c.loop-i.i (length a.xs.now) refl c.loop-i-test.false c.loop-i.invariant

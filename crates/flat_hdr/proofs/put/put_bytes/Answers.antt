@@ -15,15 +15,13 @@ bounds-out-at c = omega (arith, c.loop-i.invariant.long)
 
 pub loop-i-preserved : goal.loop-i-preserved
 loop-i-preserved c =
-    let l = c in
-    let a = l.args in
-    widened a.out.now a.at a.xs.now w64 l.requires l.loop-i.out l.loop-i.i c.loop-i-test.true (omega (arith, c.shared_slice_known-1.given l.loop-i.i)) l.loop-i.invariant
+    let a = c.args in
+    widened a.out.now a.at a.xs.now w64 c.requires c.loop-i.out c.loop-i.i c.loop-i-test.true (omega (arith, c.shared_slice_known-1.given c.loop-i.i)) c.loop-i.invariant
 
 pub shape_of-out : goal.shape_of-out
 shape_of-out c = c.loop-i.invariant.long
 
 pub returns : goal.returns
 returns c =
-    let l = c in
-    let a = l.args in
-    wide a.out.now a.at a.xs.now l.loop-i.out l.loop-i.i c.loop-i-test.false l.loop-i.invariant
+    let a = c.args in
+    wide a.out.now a.at a.xs.now c.loop-i.out c.loop-i.i c.loop-i-test.false c.loop-i.invariant

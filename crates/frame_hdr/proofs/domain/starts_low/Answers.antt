@@ -15,17 +15,14 @@ loop-i-init c = (search rules, ap (λ (x : ℕ). leb x 1024) (sym (get_or-take 6
 
 pub bounds-starts-i : goal.bounds-starts-i
 bounds-starts-i c =
-    let s = c in
-    omega (arith, s.requires.0, s.requires.1, c.loop-i-test.true)
+    omega (arith, c.requires.0, c.requires.1, c.loop-i-test.true)
 
 pub loop-i-preserved : goal.loop-i-preserved
 loop-i-preserved c =
-    let t = c in
-    let l = t.loop-i in
-    let s = t in
-    let starts = s.args.starts.now in (
+    let l = c.loop-i in
+    let starts = c.args.starts.now in (
       search rules,
-      low_more (take 65 starts) l.i l.invariant.1 (sym (get_or-take 65 starts (l.i + 1) 0 (omega (arith, s.requires.0, t.loop-i-test.true)))),
+      low_more (take 65 starts) l.i l.invariant.1 (sym (get_or-take 65 starts (l.i + 1) 0 (omega (arith, c.requires.0, c.loop-i-test.true)))),
     )
 
 pub returns : goal.returns

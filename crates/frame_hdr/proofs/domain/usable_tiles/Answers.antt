@@ -9,10 +9,9 @@ use Rattle.frame_hdr.proofs.domain.usable_tiles.Goals as goal
 
 pub starts_low-requires : goal.starts_low-requires
 starts_low-requires c =
-    let s = c in
-    let a = s.args in
+    let a = c.args in
     let few = both (leb 1 a.tiles && leb a.tiles 64) (leb a.log2 6) c.if-tiles-log2.true in
-    (leb-true a.tiles 64 (both (leb 1 a.tiles) (leb a.tiles 64) few.0).1, s.requires)
+    (leb-true a.tiles 64 (both (leb 1 a.tiles) (leb a.tiles 64) few.0).1, c.requires)
 
 pub returns-then-tiles-log2 : goal.returns-then-tiles-log2
 unfolding usable_tiles

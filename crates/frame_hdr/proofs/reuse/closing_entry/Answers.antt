@@ -12,12 +12,9 @@ returns-then-doubles c = sym (taken _ _ _ (sym c.doubles.ensures ∙ c.if-double
 
 pub returns : goal.returns
 returns c =
-    let t = c in
-    let d = t in
-    let s = d in
-    let a = s.args in
+    let a = c.args in
     let starts = take 65 a.starts.now in
-    let e = sym d.doubles.ensures ∙ t.if-doubles.false in
-    let g : t.seq_start.result.0 ≡ get_or starts a.tiles 0 = t.seq_start.ensures ∙ sym (get_or-take 65 a.starts.now a.tiles 0 (omega (arith, s.requires.0))) in
+    let e = sym c.doubles.ensures ∙ c.if-doubles.false in
+    let g : c.seq_start.result.0 ≡ get_or starts a.tiles 0 = c.seq_start.ensures ∙ sym (get_or-take 65 a.starts.now a.tiles 0 (omega (arith, c.requires.0))) in
     let f = rw (not_doubled a.pair.frame_code a.pair.seq_code e, g) at c.in_frame.ensures in
-    omega (arith, f, start_low starts a.tiles a.tiles s.requires.1 (omega arith)) ∙ sym (left _ _ _ e)
+    omega (arith, f, start_low starts a.tiles a.tiles c.requires.1 (omega arith)) ∙ sym (left _ _ _ e)

@@ -22,29 +22,23 @@ starts-of s i = multiplier_of s.args.pair.frame_code s.args.pair.seq_code * get_
 pub loop-i-init : goal.loop-i-init
 unfolding tabulate
 loop-i-init c =
-    let s = c in
-    (omega arith, cleared_front _ s.args.at.now s.requires.0 c.clear_starts.ensures, refl)
+    (omega arith, cleared_front _ c.args.at.now c.requires.0 c.clear_starts.ensures, refl)
 
 pub bounds-at-i : goal.bounds-at-i
 bounds-at-i c =
-    let t = c in
-    let l = t in
-    omega (arith, t.loop-i-test.true, l.loop-i.invariant.2, l.at-1.given, (start l).requires.0, (start l).requires.1)
+    omega (arith, c.loop-i-test.true, c.loop-i.invariant.2, c.at-1.given, (start c).requires.0, (start c).requires.1)
 
 pub loop-i-preserved : goal.loop-i-preserved
 loop-i-preserved c =
-    let x = c in
-    let y = x in
-    let t = y in
-    let l = t.loop-i in
-    let s = start t in
+    let l = c.loop-i in
+    let s = start c in
     let starts = s.args.starts.now in
-    let few : l.i < 65 = omega (arith, s.pre.1, t.loop-i-test.true) in
-    let g = y.seq_start.ensures ∙ sym (get_or-take 65 starts l.i 0 few) in
+    let few : l.i < 65 = omega (arith, s.pre.1, c.loop-i-test.true) in
+    let g = c.seq_start.ensures ∙ sym (get_or-take 65 starts l.i 0 few) in
     let m = multiplier_of s.args.pair.frame_code s.args.pair.seq_code in
     let v : c.number.result ≡ starts-of s l.i =
-    c.number.ensures ∙ rw (x.in_frame.ensures, g) (start_fits m (get_or (take 65 starts) l.i 0) (low_multiplier _ _) (start_low (take 65 starts) s.args.tiles l.i s.pre.2 (omega (arith, t.loop-i-test.true)))) in (
-      omega (arith, t.loop-i-test.true),
+    c.number.ensures ∙ rw (c.in_frame.ensures, g) (start_fits m (get_or (take 65 starts) l.i 0) (low_multiplier _ _) (start_low (take 65 starts) s.args.tiles l.i s.pre.2 (omega (arith, c.loop-i-test.true)))) in (
+      omega (arith, c.loop-i-test.true),
       rw l.invariant.1 (stored (starts-of s) _ l.i c.number.result v few),
       length-set l.at l.i _ ∙ l.invariant.2,
     )

@@ -15,27 +15,19 @@ pub returns-then-uniform : goal.returns-then-uniform
 returns-then-uniform c =
     let on : is_off c.args.present ≡ false = sym c.is_off.ensures ∙ c.if-is_off.false in
     let code : min c.of-pair.result.frame_code 2 ≡ c.args.a.frame_code = omega (arith, c.of-pair.ensures.0, low_code _ (domain _ c.requires.a_value)) in
-    let k = c in
-    let o = k in
-    let s = o in
-    let small = s.requires.log2_cols_bound.0 (on) in
-    let w : s.args.log2_cols % 32 ≡ s.args.log2_cols = omega (arith, small.0) in
-    let h : s.args.log2_rows % 32 ≡ s.args.log2_rows = omega (arith, small.1) in
-    rw (c.fits_uniform-then-uniform.ensures, c.fits_uniform.ensures, k.frame_count-sbh.ensures, k.frame_count-sbw.ensures, code, w, h)
+    let small = c.requires.log2_cols_bound.0 (on) in
+    let w : c.args.log2_cols % 32 ≡ c.args.log2_cols = omega (arith, small.0) in
+    let h : c.args.log2_rows % 32 ≡ c.args.log2_rows = omega (arith, small.1) in
+    rw (c.fits_uniform-then-uniform.ensures, c.fits_uniform.ensures, c.frame_count-sbh.ensures, c.frame_count-sbw.ensures, code, w, h)
     (sym (left _ _ _ (on) ∙ taken _ _ _ c.if-uniform.true))
 
 pub same_counts-requires : goal.same_counts-requires
 same_counts-requires c =
-    let o = c in
-    let s = o in
-    omega (arith, o.of-pair.ensures.1, low_seq_code _ (domain _ s.requires.a_value))
+    omega (arith, c.of-pair.ensures.1, low_seq_code _ (domain _ c.requires.a_value))
 
 pub returns : goal.returns
 returns c =
     let on : is_off c.args.present ≡ false = sym c.is_off.ensures ∙ c.if-is_off.false in
     let code : min c.of-pair.result.frame_code 2 ≡ c.args.a.frame_code = omega (arith, c.of-pair.ensures.0, low_code _ (domain _ c.requires.a_value)) in
-    let k = c in
-    let o = k in
-    let s = o in
-    rw (c.same_counts.ensures, k.frame_count-sbh.ensures, k.frame_count-sbw.ensures, code, o.of-pair.ensures.1, to_z-of_z s.ranges.max-width, to_z-of_z s.ranges.max-height)
+    rw (c.same_counts.ensures, c.frame_count-sbh.ensures, c.frame_count-sbw.ensures, code, c.of-pair.ensures.1, to_z-of_z c.ranges.max_width, to_z-of_z c.ranges.max_height)
     (sym (left _ _ _ (on) ∙ left _ _ _ c.if-uniform.false))

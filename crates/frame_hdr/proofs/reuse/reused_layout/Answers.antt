@@ -33,43 +33,32 @@ multiplied o =
 pub reused_starts-requires : goal.reused_starts-requires
 reused_starts-requires c =
     let code : min c.of-pair.result.frame_code 2 ≡ (start c).args.a.frame_code = omega (arith, c.of-pair.ensures.0, low_code _ (domain _ (start c).requires.0)) in
-    let w = c in
-    let o = w in
-    let s = start o in
+    let s = start c in
     let u = usable_tiles_lem _ _ _ s.pre.1.1.1.0 in
-    ((room (given s) s.pre.1.0).cols, u.few, u.low, rw (w.frame_count-sbw.ensures, code) (across _ (domain _ s.pre.0)).most_all)
+    ((room (given s) s.pre.1.0).cols, u.few, u.low, rw (c.frame_count-sbw.ensures, code) (across _ (domain _ s.pre.0)).most_all)
 
 pub reused_starts-requires-2 : goal.reused_starts-requires-2
 reused_starts-requires-2 c =
     let code : min c.of-pair.result.frame_code 2 ≡ (start c).args.a.frame_code = omega (arith, c.of-pair.ensures.0, low_code _ (domain _ (start c).requires.0)) in
-    let h = c in
-    let o = h in
-    let s = start o in
+    let s = start c in
     let u = usable_tiles_lem _ _ _ s.pre.1.1.1.1 in
-    ((room (given s) s.pre.1.0).rows, u.few, u.low, rw (h.frame_count-sbh.ensures, code) (down _ (domain _ s.pre.0)).most_all)
+    ((room (given s) s.pre.1.0).rows, u.few, u.low, rw (c.frame_count-sbh.ensures, code) (down _ (domain _ s.pre.0)).most_all)
 
 pub returns : goal.returns
 unfolding reused_info
 returns c =
     let code : min c.of-pair.result.frame_code 2 ≡ (start c).args.a.frame_code = omega (arith, c.of-pair.ensures.0, low_code _ (domain _ (start c).requires.0)) in
-    let i = c in
-    let f = i in
-    let r = f in
-    let k = r in
-    let h = k in
-    let w = h in
-    let o = w in
-    let s = start o in
+    let s = start c in
     let a = s.args.a in
     let b = given s in
     let seq = theirs s in
     let room = room b s.pre.1.0 in
     let roomy = has_room_lem seq (record { bytes = s.pre.1.1.0.0; cols = s.pre.1.1.0.1; rows = s.pre.1.1.0.2 }) in
     let t = reused_info a (Held seq) in
-    let cols = rw (multiplied o, w.frame_count-sbw.ensures, code) at k.reused_starts.ensures in
-    let rows = rw (multiplied o, h.frame_count-sbh.ensures, code) at r.reused_starts-2.ensures in
+    let cols = rw (multiplied c, c.frame_count-sbw.ensures, code) at c.reused_starts.ensures in
+    let rows = rw (multiplied c, c.frame_count-sbh.ensures, code) at c.reused_starts-2.ensures in
     put_over t b s.pre.1.0
-    (rw f.is_set.ensures at i.put_layout_bytes.ensures)
+    (rw c.is_set.ensures at c.put_layout_bytes.ensures)
     (in_front t.col_start_sb b.col_starts_lem room.cols cols)
     (in_front t.row_start_sb b.row_starts_lem room.rows rows)
     ∙ ap (λ (x : TileInfo). put_layout (reused_info a x) b) (sym (held seq roomy))

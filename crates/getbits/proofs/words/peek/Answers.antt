@@ -6,8 +6,7 @@ use Rattle.getbits.proofs.words.peek.Goals as goal
 
 pub returns-else-s-byte-ge8 : goal.returns-else-s-byte-ge8
 returns-else-s-byte-ge8 c =
-    let k = c in
-    let a = k.args in
+    let a = c.args in
     c.field.ensures
     ∙ ap (λ (w : ℕ). w / 2 ^ (64 - (a.used + a.n)) % 2 ^ a.n) c.eight_bytes_near_end.ensures
-    ∙ bytes_field a.s.now a.byte a.used a.n (λ i. omega (arith, k.shared_slice_known-1.given i)) (omega arith) (omega arith)
+    ∙ bytes_field a.s.now a.byte a.used a.n (λ i. omega (arith, c.shared_slice_known-1.given i)) (omega arith) (omega arith)

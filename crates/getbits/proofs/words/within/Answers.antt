@@ -6,8 +6,7 @@ use Rattle.getbits.proofs.words.within.Goals as goal
 
 pub returns : goal.returns
 returns c =
-    let k = c in
-    let a = k.args in
+    let a = c.args in
     c.field.ensures
     ∙ ap (λ (w : ℕ). w / 2 ^ (64 - (a.used + a.n)) % 2 ^ a.n) c.eight_bytes_within.ensures
-    ∙ bytes_field a.s.now a.byte a.used a.n (λ i. omega (arith, k.shared_slice_known-1.given i)) (omega arith) (omega arith)
+    ∙ bytes_field a.s.now a.byte a.used a.n (λ i. omega (arith, c.shared_slice_known-1.given i)) (omega arith) (omega arith)

@@ -7,6 +7,4 @@ returns-then-widest_tile-eq0 c = rw (c.if-widest_tile-eq0.true, div-zero)
 
 pub returns : goal.returns
 returns c =
-    let q = c in
-    let z = q in
-    c.umax.ensures ∙ ap (max 1) (q.quotient.ensures ∙ ap (λ (x : ℕ). x / z.args.widest_tile.0) z.shifted.ensures)
+    c.umax.ensures ∙ ap (max 1) (c.quotient.ensures ∙ ap (λ (x : ℕ). x / c.args.widest_tile.0) c.shifted.ensures)

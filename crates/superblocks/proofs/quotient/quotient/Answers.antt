@@ -9,9 +9,8 @@ low c = omega (arith, c.loop-k.invariant.0, c.quotient_bits-k.ensures.1)
 
 part : (c : goal.In-loop-k invariant-loop decreases-loop) → let d = c.args.d in let k = c.loop-k.k - 1 in d * 2 ^ k % 4294967296 ≡ d * 2 ^ k
 part c =
-    let b = c in
-    let a = b.args in
-    mod-eq_of_lt (part_fits a.n a.d (c.loop-k.k - 1) (b.quotient_bits-k.result - 1) (search rules) (search rules) (omega (arith, c.loop-k.invariant.0)) b.quotient_bits-k.ensures.3)
+    let a = c.args in
+    mod-eq_of_lt (part_fits a.n a.d (c.loop-k.k - 1) (c.quotient_bits-k.result - 1) (search rules) (search rules) (omega (arith, c.loop-k.invariant.0)) c.quotient_bits-k.ensures.3)
 
 -- a bit that is taken off
 off : (c : goal.Else-part-left invariant-loop decreases-loop) → let l = c.loop-k in let a = c.args in

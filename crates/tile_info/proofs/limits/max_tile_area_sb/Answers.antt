@@ -9,9 +9,7 @@ use Rattle.tile_info.proofs.limits.max_tile_area_sb.Goals as goal
 
 low : (c : goal.After-power) → c.power.result ≤ 8
 low c =
-    let x = c in
-    let y = x in
-    rw c.power.ensures.0 (pow_mono {j = 3} (omega (arith, x.one_if-3.ensures.1, y.one_if-2.ensures.1, y.one_if.ensures.1)))
+    rw c.power.ensures.0 (pow_mono {j = 3} (omega (arith, c.one_if-3.ensures.1, c.one_if-2.ensures.1, c.one_if.ensures.1)))
 
 pub overflow_mul-power : goal.overflow_mul-power
 overflow_mul-power c = omega (arith, low c)
@@ -19,10 +17,6 @@ overflow_mul-power c = omega (arith, low c)
 pub returns : goal.returns
 unfolding area_limit
 returns c =
-    let x = c in
-    let y = x in
-    let z = y in
-    let s = z in
-    let e = power_below (omega (arith, x.one_if-3.ensures.1, y.one_if-2.ensures.1, z.one_if.ensures.1)) c.power.ensures.0 in
-    c.area_limit_lem.ensures
-    ∙ rw (e, z.one_if.ensures.0, y.one_if-2.ensures.0, x.one_if-3.ensures.0, frame_code_lem s.requires.a_value s.requires.coded) refl
+    let e = power_below (omega (arith, c.one_if-3.ensures.1, c.one_if-2.ensures.1, c.one_if.ensures.1)) c.power.ensures.0 in
+    c.area_limit.ensures
+    ∙ rw (e, c.one_if.ensures.0, c.one_if-2.ensures.0, c.one_if-3.ensures.0, frame_code_lem c.requires.a_value c.requires.coded) refl

@@ -9,8 +9,7 @@ use Rattle.tile_info.proofs.limits.max_tile_width_sb.Goals as goal
 
 low : (c : goal.After-power) → c.power.result ≤ 4
 low c =
-    let x = c in
-    rw c.power.ensures.0 (pow_mono {j = 2} (omega (arith, x.one_if-2.ensures.1, x.one_if.ensures.1)))
+    rw c.power.ensures.0 (pow_mono {j = 2} (omega (arith, c.one_if-2.ensures.1, c.one_if.ensures.1)))
 
 pub overflow_mul-power : goal.overflow_mul-power
 overflow_mul-power c = omega (arith, low c)
@@ -18,8 +17,5 @@ overflow_mul-power c = omega (arith, low c)
 pub returns : goal.returns
 unfolding width_limit
 returns c =
-    let x = c in
-    let y = x in
-    let s = y in
-    let e = power_below (omega (arith, x.one_if-2.ensures.1, y.one_if.ensures.1)) c.power.ensures.0 in
-    c.width_limit_lem.ensures ∙ rw (e, y.one_if.ensures.0, x.one_if-2.ensures.0, frame_code_lem s.requires.a_value s.requires.coded) refl
+    let e = power_below (omega (arith, c.one_if-2.ensures.1, c.one_if.ensures.1)) c.power.ensures.0 in
+    c.width_limit.ensures ∙ rw (e, c.one_if.ensures.0, c.one_if-2.ensures.0, frame_code_lem c.requires.a_value c.requires.coded) refl

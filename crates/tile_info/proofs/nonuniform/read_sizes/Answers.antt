@@ -23,9 +23,8 @@ loop-total-init c =
 
 pub bounds-starts-tiles : goal.bounds-starts-tiles
 bounds-starts-tiles c =
-    let l = c in
-    let n : l.loop-total.tiles < 64 = omega (arith, ltb-true) in
-    omega (arith, l.loop-total.invariant.1, l.starts-1.given, (start l).pre.0)
+    let n : c.loop-total.tiles < 64 = omega (arith, ltb-true) in
+    omega (arith, c.loop-total.invariant.1, c.starts-1.given, (start c).pre.0)
 
 pub overflow_add-tiles : goal.overflow_add-tiles
 overflow_add-tiles c = omega (arith, ltb-true)
@@ -35,39 +34,30 @@ loop-total-smaller c = omega (arith, ltb-true)
 
 pub loop-total-preserved : goal.loop-total-preserved
 loop-total-preserved c =
-    let r = c in
-    let m = r in
-    let p = m in
-    let t = p in
-    let b = t in
-    let l = b.loop-total in
-    let s = start b in
+    let l = c.loop-total in
+    let s = start c in
     let n : l.tiles < 64 = omega (arith, ltb-true) in (
-      walk_next _ _ _ _ _ l.invariant.0 (less b t.loop-total-test.true) n s.pre.1 s.pre.2
-          m.minus.ensures r.read_size-z.ensures.0 r.read_size-z.ensures.1 (rw p.number.ensures refl) c.most-widest_tile.ensures c.plus-sbx.ensures,
+      walk_next _ _ _ _ _ l.invariant.0 (less c c.loop-total-test.true) n s.pre.1 s.pre.2
+          c.minus.ensures c.read_size-z.ensures.0 c.read_size-z.ensures.1 (rw c.number.ensures refl) c.most-widest_tile.ensures c.plus-sbx.ensures,
       length-set l.starts l.tiles _ ∙ l.invariant.1,
     )
 
 pub shape_of-starts-else-tiles-lt64 : goal.shape_of-starts-else-tiles-lt64
 shape_of-starts-else-tiles-lt64 c =
-    let l = c in
-    l.loop-total.invariant.1 ∙ l.starts-1.given
+    c.loop-total.invariant.1 ∙ c.starts-1.given
 
 pub returns-else-tiles-lt64 : goal.returns-else-tiles-lt64
 returns-else-tiles-lt64 c =
-    let l = c in
-    let s = start l in
-    rw (cleared_rest _ s.args.starts.now s.pre.0 l.clear_starts.ensures) at
-    (all_used _ _ _ _ _ _ l.loop-total.invariant.0 (omega (arith, ltb-false)))
+    let s = start c in
+    rw (cleared_rest _ s.args.starts.now s.pre.0 c.clear_starts.ensures) at
+    (all_used _ _ _ _ _ _ c.loop-total.invariant.0 (omega (arith, ltb-false)))
 
 pub shape_of-starts-after-loop-total : goal.shape_of-starts-after-loop-total
 shape_of-starts-after-loop-total c =
-    let l = c in
-    l.loop-total.invariant.1 ∙ l.starts-1.given
+    c.loop-total.invariant.1 ∙ c.starts-1.given
 
 pub returns-after-loop-total : goal.returns-after-loop-total
 returns-after-loop-total c =
-    let l = c in
-    let s = start l in
-    rw (cleared_rest _ s.args.starts.now s.pre.0 l.clear_starts.ensures) at
-    (all_done _ _ _ _ _ _ l.loop-total.invariant.0 (ltb-false _ _ (sym c.below.ensures ∙ c.loop-total-test.false)))
+    let s = start c in
+    rw (cleared_rest _ s.args.starts.now s.pre.0 c.clear_starts.ensures) at
+    (all_done _ _ _ _ _ _ c.loop-total.invariant.0 (ltb-false _ _ (sym c.below.ensures ∙ c.loop-total-test.false)))

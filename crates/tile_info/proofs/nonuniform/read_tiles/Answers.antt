@@ -10,25 +10,19 @@ use Rattle.tile_info.proofs.nonuniform.read_tiles.Goals as goal
 
 pub bounds-starts-tiles : goal.bounds-starts-tiles
 bounds-starts-tiles c =
-    let z = c in
-    omega (arith, z.read_sizes-z.ensures.few, c.starts-1.given, z.requires.0)
+    omega (arith, c.read_sizes-z.ensures.few, c.starts-1.given, c.requires.0)
 
 pub returns : goal.returns
 returns c =
-    let below = c in
-    let log = below in
-    let number = log in
-    let read = number in
-    let s = read in
-    let a = s.args in
-    let z = read.read_sizes-z.ensures in
-    let n = read.read_sizes-z.result.tiles in
+    let a = c.args in
+    let z = c.read_sizes-z.ensures in
+    let n = c.read_sizes-z.result.tiles in
     let sizes = (read_sizes 64 a.s.now a.p a.total.0 a.limit.0).sizes in
-    let v : number.number.result ≡ a.total.0 = omega (arith, number.number.ensures, s.requires.1) in
+    let v : c.number.result ≡ a.total.0 = omega (arith, c.number.ensures, c.requires.1) in
     record {
       counted = z.counted;
-      log = log.tiles_log2-log2.ensures ∙ ap (tile_log2 1) z.counted;
-      left = below.below-short.ensures ∙ ap (λ (x : ℕ). ltb x a.total.0) z.summed;
+      c = c.tiles_log2-log2.ensures ∙ ap (tile_log2 1) z.counted;
+      left = c.below-short.ensures ∙ ap (λ (x : ℕ). ltb x a.total.0) z.summed;
       wides = z.wides;
       stands = z.stands;
       stored = rw (v, z.stored) (grow (starts_from 0 sizes) _ n a.total.0 (length_starts sizes 0 ∙ sym z.counted) (omega (arith, z.few)));

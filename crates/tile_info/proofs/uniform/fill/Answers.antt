@@ -47,54 +47,46 @@ loop-pair-init c =
 
 pub bounds-starts-i : goal.bounds-starts-i
 bounds-starts-i c =
-    let t = c in
-    omega (arith, more t, (start t).pre.1, room t)
+    omega (arith, more c, (start c).pre.1, room c)
 
 pub overflow_add-i : goal.overflow_add-i
-overflow_add-i c = let t = c in omega (arith, more t, (start t).pre.1)
+overflow_add-i c = omega (arith, more c, (start c).pre.1)
 
 pub loop-pair-smaller : goal.loop-pair-smaller
 loop-pair-smaller c = omega (arith, more c)
 
 pub loop-pair-preserved : goal.loop-pair-preserved
 loop-pair-preserved c =
-    let plus = c in
-    let number = plus in
-    let in_frame = number in
-    let t = in_frame in
-    let l = t.loop-pair in
-    let s = start t in
+    let l = c.loop-pair in
+    let s = start c in
     let b = s.args.split.tile.0 in
     let m = multiplier_of s.args.pair.frame_code s.args.pair.seq_code in
-    let x : l.sbx.0 ≤ 1024 = omega (arith, ends t) in
-    let v : number.number.result ≡ m * l.sbx.0 = number.number.ensures ∙ rw in_frame.in_frame.ensures (start_fits m l.sbx.0 (low_multiplier _ _) x) in (
+    let x : l.sbx.0 ≤ 1024 = omega (arith, ends c) in
+    let v : c.number.result ≡ m * l.sbx.0 = c.number.ensures ∙ rw c.in_frame.ensures (start_fits m l.sbx.0 (low_multiplier _ _) x) in (
       ⊎_elim
-          (λ w. omega (arith, ap (λ (z : SeqSb). z.0) w.3, w.2.ensures, w.1.ensures, plus.plus-sbx.ensures, times_next b l.i, ends t, l.invariant.0, ltb-true l.i s.args.split.extra.0 (sym c.has-in-loop-pair.ensures ∙ w.0.taken)))
-          (λ w. omega (arith, ap (λ (z : SeqSb). z.0) w.1, plus.plus-sbx.ensures, times_next b l.i, ends t, l.invariant.0, ltb-false l.i s.args.split.extra.0 (sym c.has-in-loop-pair.ensures ∙ w.0.left)))
+          (λ w. omega (arith, ap (λ (z : SeqSb). z.0) w.3, w.2.ensures, w.1.ensures, c.plus-sbx.ensures, times_next b l.i, ends c, l.invariant.0, ltb-true l.i s.args.split.extra.0 (sym c.has-in-loop-pair.ensures ∙ w.0.taken)))
+          (λ w. omega (arith, ap (λ (z : SeqSb). z.0) w.1, c.plus-sbx.ensures, times_next b l.i, ends c, l.invariant.0, ltb-false l.i s.args.split.extra.0 (sym c.has-in-loop-pair.ensures ∙ w.0.left)))
           c.if-has.branch,
-      omega (arith, more t),
-      rw l.invariant.2 (stored _ _ l.i number.number.result (v ∙ ap (◌*◌ m) l.invariant.0) (omega (arith, more t, s.pre.1))),
+      omega (arith, more c),
+      rw l.invariant.2 (stored _ _ l.i c.number.result (v ∙ ap (◌*◌ m) l.invariant.0) (omega (arith, more c, s.pre.1))),
       length-set l.starts l.i _ ∙ l.invariant.3,
     )
 
 pub bounds-starts-i-2 : goal.bounds-starts-i-2
 bounds-starts-i-2 c =
-    let l = c in
-    omega (arith, l.loop-pair.invariant.1, (start l).pre.1, room l)
+    omega (arith, c.loop-pair.invariant.1, (start c).pre.1, room c)
 
 pub shape_of-starts : goal.shape_of-starts
 shape_of-starts c =
-    let l = c in
-    length-set l.loop-pair.starts l.loop-pair.i _ ∙ l.loop-pair.invariant.3 ∙ l.starts-1.given
+    length-set c.loop-pair.starts c.loop-pair.i _ ∙ c.loop-pair.invariant.3 ∙ c.starts-1.given
 
 pub returns : goal.returns
 returns c =
-    let e = c in
-    let l = e.loop-pair in
-    let s = start e in
-    let q : l.i ≡ s.args.split.tiles.0 = omega (arith, l.invariant.1, ltb-false l.i s.args.split.tiles.0 (sym e.has.ensures ∙ e.loop-pair-test.false)) in
+    let l = c.loop-pair in
+    let s = start c in
+    let q : l.i ≡ s.args.split.tiles.0 = omega (arith, l.invariant.1, ltb-false l.i s.args.split.tiles.0 (sym c.has.ensures ∙ c.loop-pair-test.false)) in
     let v : c.number-2.result ≡ s.args.end.0 = omega (arith, c.number-2.ensures, s.pre.3) in
-    let clear = e.clear_starts in
+    let clear = c.clear_starts in
     let rest = cleared_rest clear.new.0 s.args.starts.now s.pre.0 clear.ensures in
     ap (set l.starts l.i) v
     ∙ ap (λ (t : List ℕ). set t l.i s.args.end.0) l.invariant.2

@@ -22,20 +22,17 @@ fill-requires c =
     let al : Along c.args.a.frame_code c.args.a.multiplier (superblocks c.args.n c.args.a.frame_code) (F c) (T c) = let n = c.requires.coded.1 in along c.args.a (domain _ c.requires.a_value) c.args.n n.1 n.2 in
     let few : count (F c) (T c) c.args.log2 ≤ 64 = let x = al in
     few_tiles (F c) (T c) c.args.log2 (T c) x.some_full x.full_le x.le_full (omega (arith, x.some_full, x.full_le)) (le-mul_of_pos_right (T c) (pow_pos c.args.log2)) c.requires.coded.1.4 in
-    let split : let s = c in let r = c.even_split-split.result in (r.tile.0 ≡ base (F s) s.args.log2) × (r.tiles.0 ≡ count (F s) (T s) s.args.log2) × (r.extra.0 ≡ larger (F s) (T s) s.args.log2) = let s = c in
-    let code = seq_code s.requires.a_value s.requires.coded.0 in
-    let l : s.args.log2 % 32 ≡ s.args.log2 = omega (arith, s.requires.coded.1.4) in
+    let split : let r = c.even_split-split.result in (r.tile.0 ≡ base (F c) c.args.log2) × (r.tiles.0 ≡ count (F c) (T c) c.args.log2) × (r.extra.0 ≡ larger (F c) (T c) c.args.log2) = let code = seq_code c.requires.a_value c.requires.coded.0 in
+    let l : c.args.log2 % 32 ≡ c.args.log2 = omega (arith, c.requires.coded.1.4) in
     let f = rw code at c.full_count-fsb.ensures in
     let t = rw code at c.seq_count-ssb.ensures in
     rw (l, f, t) at c.even_split-split.ensures in
-    let k = c in
-    let s = k in
     let al = al in
     let e = split in (
-      s.requires.coded.1.0,
+      c.requires.coded.1.0,
       omega (arith, e.1, few),
-      omega (arith, e.2, holds (F s) (T s) s.args.log2 al.full_le, al.most_seq, ap₂ ◌*◌ e.0 e.1),
-      omega (arith, s.requires.coded.1.3, al.most_all),
+      omega (arith, e.2, holds (F c) (T c) c.args.log2 al.full_le, al.most_seq, ap₂ ◌*◌ e.0 e.1),
+      omega (arith, c.requires.coded.1.3, al.most_all),
     )
 
 pub returns : goal.returns
@@ -44,14 +41,10 @@ returns c =
     let al : Along c.args.a.frame_code c.args.a.multiplier (superblocks c.args.n c.args.a.frame_code) (F c) (T c) = let n = c.requires.coded.1 in along c.args.a (domain _ c.requires.a_value) c.args.n n.1 n.2 in
     let few : count (F c) (T c) c.args.log2 ≤ 64 = let x = al in
     few_tiles (F c) (T c) c.args.log2 (T c) x.some_full x.full_le x.le_full (omega (arith, x.some_full, x.full_le)) (le-mul_of_pos_right (T c) (pow_pos c.args.log2)) c.requires.coded.1.4 in
-    let split : let s = c in let r = c.even_split-split.result in (r.tile.0 ≡ base (F s) s.args.log2) × (r.tiles.0 ≡ count (F s) (T s) s.args.log2) × (r.extra.0 ≡ larger (F s) (T s) s.args.log2) = let s = c in
-    let code = seq_code s.requires.a_value s.requires.coded.0 in
-    let l : s.args.log2 % 32 ≡ s.args.log2 = omega (arith, s.requires.coded.1.4) in
+    let split : let r = c.even_split-split.result in (r.tile.0 ≡ base (F c) c.args.log2) × (r.tiles.0 ≡ count (F c) (T c) c.args.log2) × (r.extra.0 ≡ larger (F c) (T c) c.args.log2) = let code = seq_code c.requires.a_value c.requires.coded.0 in
+    let l : c.args.log2 % 32 ≡ c.args.log2 = omega (arith, c.requires.coded.1.4) in
     let f = rw code at c.full_count-fsb.ensures in
     let t = rw code at c.seq_count-ssb.ensures in
     rw (l, f, t) at c.even_split-split.ensures in
-    let f = c in
-    let k = f in
-    let s = k in
     let e = split in
-    (omega (arith, c.number.ensures, e.1, few), f.fill.ensures ∙ simp (e.0, e.1, e.2, s.requires.coded.1.3, multiplied s.requires.a_value s.requires.coded.0))
+    (omega (arith, c.number.ensures, e.1, few), c.fill.ensures ∙ simp (e.0, e.1, e.2, c.requires.coded.1.3, multiplied c.requires.a_value c.requires.coded.0))
