@@ -16,7 +16,7 @@
  *   overlap.
  * - A reader is its bytes, a position and an error. It starts at position 0 with error 0, which the caller sets; each call moves it on.
  *   The position is the number of bits before the next one, most significant first in each byte. The difference of two positions is how
- *   many bits were used between them. A position past the end counts as the end, and comes back as the end, after 4 and 5 too.
+ *   many bits were used between them. A position past the end counts as the end, and comes back as the end.
  * - A flag is a byte, and any but 0 is set. The error is never cleared, and a byte that is set already stays what it is; else 0 or 1 is
  *   stored. Flags that are written are 0 or 1.
  * - Calls share no state: there is nothing to set up and nothing to free, and threads may call at once with buffers of their own.
@@ -58,7 +58,7 @@ enum mubanlig_answer {
     MUBANLIG_INVALID_TILE_INFO = 2,
     MUBANLIG_INVALID_TRAILING_BITS = 3,
     MUBANLIG_WRONG_ARGUMENTS = 4, /* and no bit is used */
-    MUBANLIG_SHORT_BUFFER = 5,    /* and no bit is used; no lent buffer changes, only bits becomes 0 */
+    MUBANLIG_SHORT_BUFFER = 5,    /* and nothing that was lent changes, the position neither; only bits becomes 0 */
     MUBANLIG_TOO_MANY_TILES = 6,  /* more columns or rows than the limit; the bits of the layout are used */
     MUBANLIG_INVALID_FILM_GRAIN_DATA = 7,
     MUBANLIG_NO_SUCH_LAYOUT = 8 /* no bits read as the record that was to be written */

@@ -2,7 +2,7 @@
 #![tactic(auto)]
 
 ghost use Rattle.std.specs.Prelude.{◌≡◌, take};
-ghost use Rattle.io.specs.Counts.{IsPrefixLen};
+ghost use Rattle.program.specs.Input.{IsPrefixLen};
 ghost use Rattle.text.specs.Text.{Put};
 ghost use Rattle.draw.specs.Print.{arguments_text, frame_text, read_text, tile_draw_text, frame_draw_text, chosen_draw_text, draw_text};
 
@@ -12,8 +12,8 @@ use frame_layout::FrameHeader;
 use frame_request::{SequenceArgs, frame_request, sequence_args};
 use getbits::Place;
 use lent::position_of;
-use libc::{STDIN_FILENO, STDOUT_FILENO};
-use program::{byte_at, report_written, two_at};
+use program::{byte_at, read_full, report_written, two_at};
+use std::io;
 use text::put_word;
 use tile_layout::not_below_0;
 use tile_request::{samples, tile_request};
@@ -133,10 +133,11 @@ fn draw_text(input: &[u8], out: &mut [u8; 2014410]) -> usize
     put_rest(out, input[0], &input[1..])
 }
 
-fn main() {
+fn main(rt: HostRuntime) -> io::Result<()> {
     let mut input = [0u8; 65538];
-    let n = io::read_full(STDIN_FILENO, &mut input);
+    let n = read_full(&mut rt.reader(), &mut input)?;
     let mut out = [0u8; 2014410];
     let k = draw_text(&input[..n], &mut out);
-    report_written(io::write_all(STDOUT_FILENO, &out[..k]));
+    report_written(&rt, rt.write_all(&out[..k]).is_ok());
+    Ok(())
 }

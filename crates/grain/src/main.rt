@@ -2,7 +2,7 @@
 #![tactic(auto)]
 
 ghost use Rattle.std.specs.Prelude.{◌≡◌, take};
-ghost use Rattle.io.specs.Counts.{IsPrefixLen};
+ghost use Rattle.program.specs.Input.{IsPrefixLen};
 ghost use Rattle.text.specs.Text.{Put};
 ghost use Rattle.grain.specs.Print.{grain_text, grain_accepted_text, grain_read_text, grain_input_text};
 ghost use Rattle.grain.specs.Request.{is_grain_request, grain_request};
@@ -11,9 +11,9 @@ use answers::{Answer, is_refusal, number};
 use film_grain::{FilmGrainData, FilmGrainRead, no_film_grain, parse_film_grain_data};
 use flat_grain::put_film_grain;
 use getbits::Place;
-use libc::{STDIN_FILENO, STDOUT_FILENO};
-use program::{put_ok, put_refusal, report_written};
+use program::{put_ok, put_refusal, read_full, report_written};
 use seq_fields::layout_of;
+use std::io;
 use text::put_filled;
 
 fn is_request(s: &[u8]) -> bool
@@ -121,10 +121,11 @@ fn grain_text(input: &[u8], out: &mut [u8; 12162]) -> usize
     put_read(out, request(input))
 }
 
-fn main() {
+fn main(rt: HostRuntime) -> io::Result<()> {
     let mut input = [0u8; 65537];
-    let n = io::read_full(STDIN_FILENO, &mut input);
+    let n = read_full(&mut rt.reader(), &mut input)?;
     let mut out = [0u8; 12162];
     let k = grain_text(&input[..n], &mut out);
-    report_written(io::write_all(STDOUT_FILENO, &out[..k]));
+    report_written(&rt, rt.write_all(&out[..k]).is_ok());
+    Ok(())
 }

@@ -88,7 +88,7 @@ small_none = record { each = λ k. omega arith }
 
 -- a bit, and more
 pub small_cons : {b : ℕ} {x : List ℕ} → b < 2 → Small x → Small (b ∷ x)
-small_cons h s = record { each = λ k. elim k [ zero ↦ h | suc k ↦ s.each k ] }
+small_cons {b} {x} h s = record { each = λ k. elim k as (λ k. get_or (b ∷ x) k 0 < 2) [ zero ↦ h | suc k ↦ s.each k ] }
 
 pub small_append : {x y : List ℕ} → Small x → Small y → Small (x ++ y)
 small_append {x = []} f g = g
@@ -115,7 +115,7 @@ small_ones most n = small_append (ones n) (picked Small (ltb n most) (0 ∷ []) 
 small_sizes : (remains limit : ℕ) (zs : List ℕ) → Small (sizes_code remains limit zs)
 unfolding sizes_code
 small_sizes remains limit [] = small_none
-small_sizes remains limit (z ∷ zs) = small_append (small_uniform _ _) (small_sizes _ limit zs)
+small_sizes remains limit (z ∷ zs) = small_append (small_uniform _ _) (small_sizes (remains - z) limit zs)
 
 pub small_layout : (a : TileArgs) (t : TileInfo) → Small (layout_bits a t)
 unfolding layout_bits logs_code sides_code

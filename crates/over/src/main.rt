@@ -2,12 +2,12 @@
 #![tactic(auto)]
 
 ghost use Rattle.std.specs.Prelude.{◌≡◌, take};
-ghost use Rattle.io.specs.Counts.{IsPrefixLen};
+ghost use Rattle.program.specs.Input.{IsPrefixLen};
 ghost use Rattle.over.specs.Print.{over_request, over_text};
 
 use answers::{is_refusal, number};
-use libc::{STDIN_FILENO, STDOUT_FILENO};
-use program::{byte_at, put_refused, report_written};
+use program::{byte_at, put_refused, read_full, report_written};
+use std::io;
 use tile_layout::TileRead;
 use tile_request::{given_layout, put_whole_layout, request_over};
 
@@ -37,10 +37,11 @@ fn over_text(input: &[u8], out: &mut [u8; 2969]) -> usize
     put_whole_layout(out, info, next, byte_at(input, 273))
 }
 
-fn main() {
+fn main(rt: HostRuntime) -> io::Result<()> {
     let mut input = [0u8; 65806];
-    let n = io::read_full(STDIN_FILENO, &mut input);
+    let n = read_full(&mut rt.reader(), &mut input)?;
     let mut out = [0u8; 2969];
     let k = over_text(&input[..n], &mut out);
-    report_written(io::write_all(STDOUT_FILENO, &out[..k]));
+    report_written(&rt, rt.write_all(&out[..k]).is_ok());
+    Ok(())
 }

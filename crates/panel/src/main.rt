@@ -2,7 +2,7 @@
 #![tactic(auto)]
 
 ghost use Rattle.std.specs.Prelude.{◌≡◌, take};
-ghost use Rattle.io.specs.Counts.{IsPrefixLen};
+ghost use Rattle.program.specs.Input.{IsPrefixLen};
 ghost use Rattle.text.specs.Text.{Put};
 ghost use Rattle.frame_request.specs.Print.{frame_read_text};
 ghost use Rattle.program.specs.Output.{chosen_text};
@@ -11,8 +11,8 @@ ghost use Rattle.panel.specs.Print.{panel_tiles, panel_frame, panel_text};
 
 use frame_layout::FrameRead;
 use frame_request::{frame_request, given_frame, put_frame_read};
-use libc::{STDIN_FILENO, STDOUT_FILENO};
-use program::{put_refused, report_written};
+use program::{put_refused, read_full, report_written};
+use std::io;
 use tile_layout::{TileRead, no_tile_info};
 use tile_limit::{TileLimit, frame_within, tiles_within};
 use tile_request::{put_tile_read, tile_request};
@@ -53,10 +53,11 @@ fn panel_text(input: &[u8], out: &mut [u8; 10843]) -> usize
     put_rest(out, input[0], &input[1..])
 }
 
-fn main() {
+fn main(rt: HostRuntime) -> io::Result<()> {
     let mut input = [0u8; 65538];
-    let n = io::read_full(STDIN_FILENO, &mut input);
+    let n = read_full(&mut rt.reader(), &mut input)?;
     let mut out = [0u8; 10843];
     let k = panel_text(&input[..n], &mut out);
-    report_written(io::write_all(STDOUT_FILENO, &out[..k]));
+    report_written(&rt, rt.write_all(&out[..k]).is_ok());
+    Ok(())
 }

@@ -1,14 +1,15 @@
 // What the programs share: numbers in their input, its limit, lines that they print alike, and what is said where the output can't be written.
 #![tactic(auto)]
 
-ghost use Rattle.std.specs.Prelude.{◌≡◌, ◌+◌, ◌*◌, ◌<◌, length};
+ghost use Rattle.std.specs.Prelude.{◌≡◌, ◌+◌, ◌*◌, ◌<◌, length, IfOk};
 ghost use Rattle.text.specs.Text.{Put};
-ghost use Rattle.program.specs.Input.{byte_at, two_at, is_input};
+ghost use Rattle.program.specs.Input.{byte_at, two_at, is_input, IsPrefixLen};
 ghost use Rattle.program.specs.Output.{accepted_text, refused_text, ok_text, refusal_text};
 
 use getbits::Place;
 use lent::position_of;
-use libc::STDERR_FILENO;
+use std::io;
+use std::io::Read;
 use text::put_line;
 
 pub fn byte_at(s: &[u8], i: usize) -> u8
@@ -72,13 +73,28 @@ pub fn put_refusal(out: &mut [u8], n: u32, next: Place) -> usize
     put_line(out, 0, b"no", &xs)
 }
 
-// Where the output could not be written, says so on standard error. `written` is what io::write_all answered.
-pub fn report_written(written: bool) -> bool
+// Reads until buf is full or the input ends, and returns how many bytes it put at buf's start.
+pub fn read_full<R: Read>(input: &mut R, buf: &mut [u8]) -> io::Result<usize>
+    ensures { IfOk result (λ n. IsPrefixLen n buf.new) }
+{
+    let mut done = 0;
+    while done < buf.len() {
+        let n = input.read(&mut buf[done..])?;
+        if n == 0 {
+            break;
+        }
+        done += n;
+    }
+    Ok(done)
+}
+
+// Where the output could not be written, says so on standard error. `written` says whether it was.
+pub fn report_written<R: Eprint>(rt: &R, written: bool) -> bool
     ensures { result ≡ written }
 {
     if written {
         return true;
     }
-    io::write_all(STDERR_FILENO, b"the output could not be written\n");
+    rt.eprintln("the output could not be written").is_ok();
     false
 }

@@ -54,6 +54,7 @@ computed = (refl, (refl, (refl, (refl, (refl, (refl, (refl, (refl, (refl, (refl,
 -- a row that is in the list is one of them
 among : (l : List Row) → Every l → (r : Row) → Memᴰ r l → Holds r
 unfolding Every
+among [] _ r m = elim m [ ]
 among (x ∷ l) (e, es) r (Memᴰ.head q) = cc
 among (x ∷ l) (e, es) r (Memᴰ.tail m) = among l es r m
 

@@ -2,7 +2,7 @@
 #![tactic(auto)]
 
 ghost use Rattle.std.specs.Prelude.{◌≡◌, ◌+◌, ◌*◌, ◌≤◌, length, take, drop};
-ghost use Rattle.io.specs.Counts.{IsPrefixLen};
+ghost use Rattle.program.specs.Input.{IsPrefixLen};
 ghost use Rattle.program.specs.Output.{chosen_text};
 ghost use Rattle.rectangles.specs.Rectangles.{each};
 ghost use Rattle.text.specs.Text.{Put, row, line};
@@ -11,9 +11,9 @@ ghost use Rattle.rects.specs.Print.{rectangles_text, read_text, tile_rects_text,
 
 use answers::{Answer, is_refusal, number};
 use frame_request::frame_request;
-use libc::{STDIN_FILENO, STDOUT_FILENO};
-use program::{byte_at, put_refused, report_written};
+use program::{byte_at, put_refused, read_full, report_written};
 use rectangles::tile_rectangles;
+use std::io;
 use text::{put_line, put_number};
 use tile_layout::TileInfo;
 use tile_request::{samples, tile_request};
@@ -120,10 +120,11 @@ fn rects_text(input: &[u8], out: &mut [u8; 344088]) -> usize
     put_rest(out, input[0], &input[1..])
 }
 
-fn main() {
+fn main(rt: HostRuntime) -> io::Result<()> {
     let mut input = [0u8; 65538];
-    let n = io::read_full(STDIN_FILENO, &mut input);
+    let n = read_full(&mut rt.reader(), &mut input)?;
     let mut out = [0u8; 344088];
     let k = rects_text(&input[..n], &mut out);
-    report_written(io::write_all(STDOUT_FILENO, &out[..k]));
+    report_written(&rt, rt.write_all(&out[..k]).is_ok());
+    Ok(())
 }

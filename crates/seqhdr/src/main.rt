@@ -2,7 +2,7 @@
 #![tactic(auto)]
 
 ghost use Rattle.std.specs.Prelude.{[], ◌∷◌, ◌++◌, ◌≡◌, ◌+◌, length, take};
-ghost use Rattle.io.specs.Counts.{IsPrefixLen};
+ghost use Rattle.program.specs.Input.{IsPrefixLen};
 ghost use Rattle.program.specs.Output.{starts_text};
 ghost use Rattle.text.specs.Text.{Put, nexts, line};
 ghost use Rattle.seqhdr.specs.Fields.{opening_text, size_text, tools_text, filters_text, fields_text};
@@ -13,10 +13,10 @@ ghost use Rattle.seqhdr.specs.Request.{is_seq_request, seq_request};
 use answers::{Answer, is_refusal, number};
 use flat_hdr::put_seq_hdr;
 use getbits::Place;
-use libc::{STDIN_FILENO, STDOUT_FILENO};
-use program::{put_ok, put_refusal, report_written};
+use program::{put_ok, put_refusal, read_full, report_written};
 use seq_hdr::{SeqRead, parse_seq_hdr};
 use seq_record::{SequenceHeader, no_seq_hdr};
+use std::io;
 use text::{put_filled, put_line, put_row, put_word};
 use tile_layout::TileInfo;
 
@@ -348,10 +348,11 @@ fn seqhdr_text(input: &[u8], out: &mut [u8; 43589]) -> usize
     put_read(out, request(input))
 }
 
-fn main() {
+fn main(rt: HostRuntime) -> io::Result<()> {
     let mut input = [0u8; 65537];
-    let n = io::read_full(STDIN_FILENO, &mut input);
+    let n = read_full(&mut rt.reader(), &mut input)?;
     let mut out = [0u8; 43589];
     let k = seqhdr_text(&input[..n], &mut out);
-    report_written(io::write_all(STDOUT_FILENO, &out[..k]));
+    report_written(&rt, rt.write_all(&out[..k]).is_ok());
+    Ok(())
 }

@@ -2,11 +2,11 @@
 #![tactic(auto)]
 
 ghost use Rattle.std.specs.Prelude.{◌≡◌, take};
-ghost use Rattle.io.specs.Counts.{IsPrefixLen};
+ghost use Rattle.program.specs.Input.{IsPrefixLen};
 ghost use Rattle.tile.specs.Print.{tile_text};
 
-use libc::{STDIN_FILENO, STDOUT_FILENO};
-use program::report_written;
+use program::{read_full, report_written};
+use std::io;
 use tile_request::{put_tile_read, tile_request};
 
 // From the input's bytes to the output's.
@@ -17,10 +17,11 @@ fn tile_text(input: &[u8], out: &mut [u8; 10843]) -> usize
     put_tile_read(out, tile_request(input))
 }
 
-fn main() {
+fn main(rt: HostRuntime) -> io::Result<()> {
     let mut input = [0u8; 65537];
-    let n = io::read_full(STDIN_FILENO, &mut input);
+    let n = read_full(&mut rt.reader(), &mut input)?;
     let mut out = [0u8; 10843];
     let k = tile_text(&input[..n], &mut out);
-    report_written(io::write_all(STDOUT_FILENO, &out[..k]));
+    report_written(&rt, rt.write_all(&out[..k]).is_ok());
+    Ok(())
 }

@@ -31,7 +31,7 @@ sizes_read (suc most) s p (suc n) limit l =
     record {
       few = omega (arith, ih.few);
       inside = omega (arith, ih.inside, v<);
-      each = λ k. elim k [ zero ↦ λ h. omega (arith, v<) | suc j ↦ λ h. ih.each j (omega arith) ];
+      each = λ k. elim k as (λ k. k < length ((v.value + 1) ∷ (read_sizes most s v.next (suc n - (v.value + 1)) limit).sizes) → (1 ≤ get_or ((v.value + 1) ∷ (read_sizes most s v.next (suc n - (v.value + 1)) limit).sizes) k 0) × (get_or ((v.value + 1) ∷ (read_sizes most s v.next (suc n - (v.value + 1)) limit).sizes) k 0 ≤ limit)) [ zero ↦ λ h. omega (arith, v<) | suc j ↦ λ h. ih.each j (omega arith) ];
       some = λ h g. omega arith;
     }
 

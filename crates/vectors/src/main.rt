@@ -16,8 +16,10 @@ use capi_tiles::{mubanlig_parse_tile_info, mubanlig_tile_rectangles};
 use capi_within::{mubanlig_parse_tile_info_frmhdr_within, mubanlig_parse_tile_info_within};
 use codes::get_uleb128;
 use getbits::Place;
-use libc::STDOUT_FILENO;
-use program::report_written;
+use program::{read_full, report_written};
+use std::fs::File;
+use std::io;
+use std::io::Read;
 use verdicts::{Tally, Verdict, agrees, counted, signed};
 
 // Numbers of a case, and the place behind them.
@@ -882,10 +884,11 @@ fn size_of(low: u8, high: u8) -> usize
     small(low) + 256 * small(high)
 }
 
-fn read_case(fd: i32, case: &mut [u8], size: usize) {
+fn read_case<R: Read>(file: &mut R, case: &mut [u8], size: usize) -> io::Result<usize> {
     if size <= case.len() {
-        io::read_full(fd, &mut case[..size]);
+        return read_full(&mut *file, &mut case[..size]);
     }
+    Ok(0)
 }
 
 fn replay_first(case: &[u8], size: usize) -> Verdict {
@@ -899,109 +902,106 @@ fn replay_first(case: &[u8], size: usize) -> Verdict {
 }
 
 // The next case of the file, behind its length in two bytes.
-fn next_case(fd: i32, tally: Tally) -> Turn {
+fn next_case<R: Read>(file: &mut R, tally: Tally) -> io::Result<Turn> {
     let mut head = [0u8; 2];
-    let n = io::read_full(fd, &mut head);
+    let n = read_full(&mut *file, &mut head)?;
     if n == 2 {
         let size = size_of(head[0], head[1]);
         let mut case = [0u8; 65536];
-        read_case(fd, &mut case, size);
-        return Turn {
+        read_case(&mut *file, &mut case, size)?;
+        return Ok(Turn {
             tally: counted(tally, replay_first(&case, size)),
             more: true,
-        };
+        });
     }
-    Turn { tally, more: false }
+    Ok(Turn { tally, more: false })
 }
 
-fn replay_all(fd: i32, none: Tally) -> Tally {
+fn replay_all<R: Read>(file: &mut R, none: Tally) -> io::Result<Tally> {
     let mut tally = none;
     let mut more = true;
     let mut turns: u32 = 1_000_000;
     while 0 < turns && more {
-        let t = next_case(fd, tally);
+        let t = next_case(&mut *file, tally)?;
         tally = t.tally;
         more = t.more;
         turns -= 1;
     }
-    tally
+    Ok(tally)
 }
 
-fn print(text: &[u8]) {
-    io::write_all(STDOUT_FILENO, text);
+fn print<R: Print>(rt: &R, text: &[u8]) -> bool {
+    rt.write_all(text).is_ok()
 }
 
 // The name of a reading.
-fn print_reading(kind: usize) {
+fn print_reading<R: Print>(rt: &R, kind: usize) -> bool {
     match kind {
-        0 => print(b"get_bit"),
-        1 => print(b"get_bits"),
-        2 => print(b"get_sbits"),
-        3 => print(b"get_vlc"),
-        4 => print(b"get_uniform"),
-        5 => print(b"get_ref_uniform"),
-        6 => print(b"get_uleb128"),
-        7 => print(b"get_golomb"),
-        8 => print(b"get_bits_subexp_u"),
-        9 => print(b"get_bits_subexp"),
-        _ => print(b"bytealign"),
+        0 => print(rt, b"get_bit"),
+        1 => print(rt, b"get_bits"),
+        2 => print(rt, b"get_sbits"),
+        3 => print(rt, b"get_vlc"),
+        4 => print(rt, b"get_uniform"),
+        5 => print(rt, b"get_ref_uniform"),
+        6 => print(rt, b"get_uleb128"),
+        7 => print(rt, b"get_golomb"),
+        8 => print(rt, b"get_bits_subexp_u"),
+        9 => print(rt, b"get_bits_subexp"),
+        _ => print(rt, b"bytealign"),
     }
 }
 
 // The name of any other operation.
-fn print_operation(kind: usize) {
+fn print_operation<R: Print>(rt: &R, kind: usize) -> bool {
     match kind {
-        11 => print(b"parse_tile_info"),
-        12 => print(b"parse_seq_hdr"),
-        13 => print(b"parse_tile_info_frmhdr"),
-        14 => print(b"parse_seg_info"),
-        15 => print(b"positions"),
-        16 => print(b"tile_rectangles"),
-        17 => print(b"parse_tile_info_within"),
-        18 => print(b"parse_tile_info_frmhdr_within"),
-        19 => print(b"parse_film_grain_data"),
-        _ => print(b"write_tile_info"),
+        11 => print(rt, b"parse_tile_info"),
+        12 => print(rt, b"parse_seq_hdr"),
+        13 => print(rt, b"parse_tile_info_frmhdr"),
+        14 => print(rt, b"parse_seg_info"),
+        15 => print(rt, b"positions"),
+        16 => print(rt, b"tile_rectangles"),
+        17 => print(rt, b"parse_tile_info_within"),
+        18 => print(rt, b"parse_tile_info_frmhdr_within"),
+        19 => print(rt, b"parse_film_grain_data"),
+        _ => print(rt, b"write_tile_info"),
     }
 }
 
-fn print_name(kind: usize) {
+fn print_name<R: Print>(rt: &R, kind: usize) -> bool {
     if kind < 11 {
-        print_reading(kind);
+        print_reading(rt, kind)
     } else {
-        print_operation(kind);
+        print_operation(rt, kind)
     }
 }
 
 // The name, how many were replayed and how many agree. Could the line's end be written?
-fn print_line(t: Tally, kind: usize) -> bool {
+fn print_line<R: Print>(rt: &R, t: Tally, kind: usize) -> bool {
     let replayed = t.replayed;
     let agree = t.agree;
-    print_name(kind);
-    print(b" ");
-    io::print_decimal(STDOUT_FILENO, u32_at(&replayed, kind) as u64);
-    print(b" ");
-    io::print_decimal(STDOUT_FILENO, u32_at(&agree, kind) as u64);
-    io::write_all(STDOUT_FILENO, b"\n")
+    print_name(rt, kind);
+    print(rt, b" ");
+    rt.print(u32_at(&replayed, kind)).is_ok();
+    print(rt, b" ");
+    rt.print(u32_at(&agree, kind)).is_ok();
+    print(rt, b"\n")
 }
 
 // A line for each operation. Could the last be written?
-fn print_tally(t: Tally) -> bool {
+fn print_tally<R: Print>(rt: &R, t: Tally) -> bool {
     for kind in 0..20 {
-        print_line(t, kind);
+        print_line(rt, t, kind);
     }
-    print_line(t, 20)
+    print_line(rt, t, 20)
 }
 
-fn main() {
-    let fd = os::open_read(b"answers");
-    if fd < 0 {
-        os::fail(b"answers");
-        return;
-    }
+fn main(rt: HostRuntime) -> io::Result<()> {
+    let mut file = File::open(&rt, "answers")?;
     let none = Tally {
         replayed: [0; 21],
         agree: [0; 21],
     };
-    report_written(print_tally(replay_all(fd, none)));
-    libc::close(fd);
+    let tally = replay_all(&mut file, none)?;
+    report_written(&rt, print_tally(&rt, tally));
+    Ok(())
 }

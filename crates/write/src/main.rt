@@ -2,15 +2,15 @@
 #![tactic(auto)]
 
 ghost use Rattle.std.specs.Prelude.{◌≡◌, ◌+◌, ◌*◌, ◌/◌, ◌≤◌, length, take};
-ghost use Rattle.io.specs.Counts.{IsPrefixLen};
+ghost use Rattle.program.specs.Input.{IsPrefixLen};
 ghost use Rattle.text.specs.Text.{Put, row};
 ghost use Rattle.write.specs.Print.{bits_text, written_text, request_text, write_text};
 ghost use Rattle.write.specs.Request.{write_request};
 
 use answers::{is_refusal, number};
 use layout_writing::Written;
-use libc::{STDIN_FILENO, STDOUT_FILENO};
-use program::{put_refused, report_written, two_at};
+use program::{put_refused, read_full, report_written, two_at};
+use std::io;
 use text::{put_byte, put_item, put_line};
 use tile_request::{given_layout, multiplier, samples};
 use tile_write::write_tile_info;
@@ -87,10 +87,11 @@ fn write_text(input: &[u8], out: &mut [u8; 3742]) -> usize
     put_refused(out, 0, 4)
 }
 
-fn main() {
+fn main(rt: HostRuntime) -> io::Result<()> {
     let mut input = [0u8; 280];
-    let n = io::read_full(STDIN_FILENO, &mut input);
+    let n = read_full(&mut rt.reader(), &mut input)?;
     let mut out = [0u8; 3742];
     let k = write_text(&input[..n], &mut out);
-    report_written(io::write_all(STDOUT_FILENO, &out[..k]));
+    report_written(&rt, rt.write_all(&out[..k]).is_ok());
+    Ok(())
 }

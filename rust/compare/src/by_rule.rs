@@ -41,11 +41,11 @@ fn is_short(kind: Kind, lent: &[i64]) -> bool {
         .any(|(len, full)| len < full)
 }
 
-/// No bit is used, and no buffer that was lent changes.
+/// Nothing that was lent changes, the place included.
 fn short(case: &Case, out: &mut Outcome) {
     out.rule = Some(Rule::Short);
     out.answer = 5;
-    out.place = case.settled();
+    out.place = case.place;
     lent_record(case, out);
 }
 

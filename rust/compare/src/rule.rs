@@ -12,7 +12,7 @@ pub enum Rule {
     WholeRecord,
     /// The rectangles, row by row, are not the Rust's.
     Rectangles,
-    /// A lent buffer is too short: 5, no bit used, no buffer changes.
+    /// A lent buffer is too short: 5, nothing changes.
     Short,
     /// More columns or rows than the limit: 6, and the record given comes back. The Rust knows no limit.
     TooMany,
@@ -44,7 +44,7 @@ impl Rule {
             Self::Rectangles => {
                 "the rectangles are document 01's, in the order of #104 and cut as #105 says, and not the Rust's"
             }
-            Self::Short => "a lent buffer too short: 5, no bit used, no buffer changes",
+            Self::Short => "a lent buffer too short: 5, nothing changes",
             Self::TooMany => "more columns or rows than the limit: 6, the record given comes back",
             Self::Writing => {
                 "a layout's bits are those that the Rust reads as it, 8 if there are none, as #106 says"

@@ -1,6 +1,5 @@
 //! A count of the sequence's superblocks is never added to a count of the frame's: the lines below are put into the Rattle code, and the compiler has
-//! to turn each of them down in the words that stand beside it. `rt mir` compiles; nothing is proved here. What the crates stand on is taken from `target/`, as
-//! `rt check` left it, and proved first where it is not there.
+//! to turn each of them down in the words that stand beside it. Rattle's front end compiles, with what a crate stands on as source; nothing is proved here.
 
 use std::path::{Path, PathBuf};
 use std::process::Command;
@@ -66,7 +65,7 @@ const LINES: &[(&Place, &str, &str)] = &[
     (
         &FILL,
         "let mixed = sbx + end;",
-        "error[invalid-operand-type]: expected a number, found SeqSb",
+        "error[invalid-operand-type]: + cannot be applied to SeqSb",
     ),
     (
         &FILL,
@@ -86,7 +85,7 @@ const LINES: &[(&Place, &str, &str)] = &[
     (
         &SPLIT,
         "let mixed = ssb + end;",
-        "error[invalid-operand-type]: expected a number, found SeqSb",
+        "error[invalid-operand-type]: + cannot be applied to SeqSb",
     ),
     (
         &SPLIT,
@@ -128,22 +127,22 @@ const LINES: &[(&Place, &str, &str)] = &[
     (
         &SPLIT,
         "let mixed = split.extra + end;",
-        "error[invalid-operand-type]: expected a number, found TileCount",
+        "error[invalid-operand-type]: + cannot be applied to TileCount",
     ),
     (
         &SPLIT,
         "let mixed = split.tiles + end;",
-        "error[invalid-operand-type]: expected a number, found TileCount",
+        "error[invalid-operand-type]: + cannot be applied to TileCount",
     ),
     (
         &SPLIT,
         "let mixed = split.extra + end.number();",
-        "error[invalid-operand-type]: expected a number, found TileCount",
+        "error[invalid-operand-type]: + cannot be applied to TileCount",
     ),
     (
         &SPLIT,
         "let mixed = split.tiles + end.number();",
-        "error[invalid-operand-type]: expected a number, found TileCount",
+        "error[invalid-operand-type]: + cannot be applied to TileCount",
     ),
     (
         &SPLIT,
@@ -175,7 +174,7 @@ const LINES: &[(&Place, &str, &str)] = &[
     (
         &SIZES,
         "let mixed = total + sbx;",
-        "error[invalid-operand-type]: expected a number, found FrameSb",
+        "error[invalid-operand-type]: + cannot be applied to FrameSb",
     ),
     (
         &SIZES,
@@ -196,7 +195,7 @@ const LINES: &[(&Place, &str, &str)] = &[
     (
         &DOUBLED,
         "let mixed = seq_start(starts, i) + at[i as usize];",
-        "error[invalid-operand-type]: expected a number, found SeqSb",
+        "error[invalid-operand-type]: + cannot be applied to SeqSb",
     ),
     (
         &DOUBLED,
@@ -206,7 +205,7 @@ const LINES: &[(&Place, &str, &str)] = &[
     (
         &CLOSED,
         "let mixed = starts[0] + closing;",
-        "error[mismatched-types]: expected u16, found FrameSb",
+        "error[invalid-operand-type]: + cannot be applied to u16 and FrameSb",
     ),
     (
         &CLOSED,
@@ -221,7 +220,7 @@ const LINES: &[(&Place, &str, &str)] = &[
     (
         &CLOSED,
         "let mixed = at[0] + closing;",
-        "error[mismatched-types]: expected u16, found FrameSb",
+        "error[invalid-operand-type]: + cannot be applied to u16 and FrameSb",
     ),
     (
         &COUNTS,
@@ -263,6 +262,30 @@ fn root() -> PathBuf {
     fs::canonicalize(Path::new(env!("CARGO_MANIFEST_DIR")).join("../..")).unwrap()
 }
 
+/// The toolchain's folder, by its command rt.
+fn kit() -> PathBuf {
+    let path = env::var_os("PATH").unwrap_or_default();
+    let rt = env::split_paths(&path)
+        .map(|folder| folder.join("rt"))
+        .find(|rt| rt.is_file())
+        .unwrap();
+    let rt = fs::canonicalize(rt).unwrap();
+    rt.parent().unwrap().parent().unwrap().to_path_buf()
+}
+
+/// Each crate, and all that it stands on.
+fn crates() -> Vec<(String, Vec<String>)> {
+    let text = fs::read_to_string(root().join("crates.txt")).unwrap();
+    text.lines()
+        .filter(|line| !line.starts_with('#'))
+        .filter_map(|line| line.split_once(':'))
+        .map(|(name, uses)| {
+            let name = name.split_whitespace().next().unwrap_or("").to_string();
+            (name, uses.split_whitespace().map(str::to_string).collect())
+        })
+        .collect()
+}
+
 fn copy(from: &Path, to: &Path) -> io::Result<()> {
     if !from.is_dir() {
         return fs::copy(from, to).map(|_| ());
@@ -282,22 +305,13 @@ impl Copy {
     fn new() -> Copy {
         let root = root();
         let here = env::temp_dir().join(format!("mubanlig-lines-{}", std::process::id()));
-        fs::create_dir_all(here.join("target/rlib")).unwrap();
-        for part in ["crates.txt", "crates", "target/stamp"] {
-            if root.join(part).exists() {
-                copy(&root.join(part), &here.join(part)).unwrap();
-            }
-        }
-        // What the two crates stand on.
-        let crates = fs::read_to_string(root.join("crates.txt")).unwrap();
-        let line = crates
-            .lines()
-            .find_map(|line| line.strip_prefix("frame_hdr:"))
-            .unwrap();
-        for name in line.split_whitespace() {
-            let part = format!("target/rlib/{name}.rlib");
-            if root.join(&part).exists() {
-                copy(&root.join(&part), &here.join(&part)).unwrap();
+        fs::create_dir_all(&here).unwrap();
+        for (name, _) in crates() {
+            for part in ["src", "specs", "proofs"] {
+                let part = Path::new("crates").join(&name).join(part);
+                if root.join(&part).exists() {
+                    copy(&root.join(&part), &here.join(&part)).unwrap();
+                }
             }
         }
         Copy(here)
@@ -305,14 +319,31 @@ impl Copy {
 
     /// Compiles a crate: whether it did, and what was said, without the marks around names.
     fn compile(&self, krate: &str) -> (bool, String) {
-        let out = Command::new("rt")
-            .args(["mir", krate])
-            .current_dir(&self.0)
-            .output()
-            .unwrap();
+        let kit = kit();
+        let source = |name: &str| self.0.join("crates").join(name).join("src/lib.rt");
+        let all = crates();
+        let uses = |name: &str| all.iter().find(|(n, _)| n == name).unwrap().1.clone();
+        let mut command = Command::new(kit.join("bin/rattle"));
+        command
+            .args(["check", "--crate-name", krate, "--only", ""])
+            .arg(source(krate))
+            .arg(format!("--extern=std={}", kit.join("rlibs/std.rlib").display()))
+            .arg(format!("-Ldependency={}", kit.join("rlibs").display()))
+            .arg("--antt-project")
+            .arg(kit.join("rattle/logic/antt-project.json"))
+            .arg("--logic-built")
+            .arg(kit.join("logic_built"));
+        for name in uses(krate) {
+            let mut used = uses(&name);
+            used.push("std".to_string());
+            let path = source(&name);
+            command.arg(format!("--lib={name}:{}={}", used.join(","), path.display()));
+        }
+        let out = command.output().unwrap();
+        let said = [out.stdout, out.stderr].concat();
         (
             out.status.success(),
-            String::from_utf8_lossy(&out.stderr).replace('`', ""),
+            String::from_utf8_lossy(&said).replace('`', ""),
         )
     }
 

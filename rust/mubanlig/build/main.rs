@@ -1,7 +1,7 @@
 //! Finds the six static libraries of the proved reader, or has them proved, and tells cargo to link them.
 //!
 //! They are taken from the folder that `MUBANLIG_LIB_DIR` names; else from `target/staticlib` of the project, where
-//! `rt staticlib` proves and writes them if they are missing or older than the sources. What is linked is a copy that
+//! `./staticlib` proves and writes them if they are missing or older than the sources. What is linked is a copy that
 //! was looked through: whole, for x86-64 Linux, and of the interface that this crate was written for.
 
 mod archive;
@@ -93,7 +93,7 @@ fn link() -> Result<(), String> {
 fn take_named(folder: &Path, root: Option<&Path>, linked: &Path) -> Result<(), String> {
     copy(folder, linked).map_err(|why| {
         format!(
-            "{} names {}: {why}; name a folder to which `rt staticlib` wrote all six, or unset it",
+            "{} names {}: {why}; name a folder to which `./staticlib` wrote all six, or unset it",
             settings::FOLDER,
             folder.display()
         )
@@ -145,7 +145,7 @@ fn take_proved(root: &Path, linked: &Path) -> Result<(), String> {
                 .write(true)
                 .open(folder.join(library))
                 .and_then(|file| file.set_modified(newest.at))
-                .map_err(|e| format!("`rt staticlib {name}` wrote no {library} ({e})"))?;
+                .map_err(|e| format!("`./staticlib {name}` wrote no {library} ({e})"))?;
         }
     }
     copy(&folder, linked).map_err(|why| {
@@ -158,8 +158,8 @@ fn take_proved(root: &Path, linked: &Path) -> Result<(), String> {
 
 /// Cargo runs this again when anything of the sources changes.
 fn watch(root: &Path) {
-    for source in sources::SOURCES {
-        println!("cargo::rerun-if-changed={}", root.join(source).display());
+    for source in sources::parts(root) {
+        println!("cargo::rerun-if-changed={}", source.display());
     }
 }
 

@@ -51,16 +51,16 @@ fn cargo_stderr() -> Option<File> {
     None
 }
 
-/// Runs `rt staticlib NAME` in the project's root.
+/// Runs `./staticlib NAME` in the project's root.
 pub fn staticlib(root: &Path, name: &str, screen: &mut Screen) -> Result<(), String> {
     screen.show(&format!(
-        "rt staticlib {name} in {} (a minute or more)",
+        "./staticlib {name} in {} (a minute or more)",
         root.display()
     ));
     match run(root, name, screen) {
         Ok((true, _)) => Ok(()),
         Ok((false, last)) => Err(format!(
-            "`rt staticlib {name}` failed in {}: nothing that is not proved is linked. It said last:\n{}",
+            "`./staticlib {name}` failed in {}: nothing that is not proved is linked. It said last:\n{}",
             root.display(),
             Vec::from(last).join("\n")
         )),
@@ -69,16 +69,18 @@ pub fn staticlib(root: &Path, name: &str, screen: &mut Screen) -> Result<(), Str
              put `rt` on the path, or set MUBANLIG_LIB_DIR to a folder with the six libraries",
             root.display()
         )),
-        Err(e) => Err(format!("`rt staticlib {name}` could not be run: {e}")),
+        Err(e) => Err(format!("`./staticlib {name}` could not be run: {e}")),
     }
 }
 
 /// Whether it succeeded, and its last lines.
 fn run(root: &Path, name: &str, screen: &mut Screen) -> io::Result<(bool, VecDeque<String>)> {
+    // The script needs rt: where it isn't there, this says so.
+    Command::new("rt").arg("version").output()?;
     let (reader, writer) = io::pipe()?;
-    let mut command = Command::new("rt");
+    let mut command = Command::new(root.join("staticlib"));
     command
-        .args(["staticlib", name])
+        .arg(name)
         .current_dir(root)
         .stdin(Stdio::null())
         .stdout(writer.try_clone()?)

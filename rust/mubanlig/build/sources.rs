@@ -24,10 +24,24 @@ pub fn project(crate_folder: &Path) -> Option<PathBuf> {
         .then_some(root)
 }
 
+/// What stands below these is read: the list of the crates, and each crate's code, definitions and proofs. What `rt` leaves beside them is not.
+pub fn parts(root: &Path) -> Vec<PathBuf> {
+    let mut parts = vec![root.join("crates.txt")];
+    for folder in fs::read_dir(root.join("crates")).into_iter().flatten().flatten() {
+        for part in ["src", "specs", "proofs"] {
+            let part = folder.path().join(part);
+            if part.exists() {
+                parts.push(part);
+            }
+        }
+    }
+    parts
+}
+
 /// The source that was changed last. A folder counts too: a file taken out of it changes it.
 pub fn newest(root: &Path) -> io::Result<Changed> {
     let mut newest: Option<Changed> = None;
-    let mut left: Vec<PathBuf> = SOURCES.iter().map(|source| root.join(source)).collect();
+    let mut left = parts(root);
     while let Some(path) = left.pop() {
         // An editor's own file may be gone by now.
         let Ok(about) = fs::metadata(&path) else {

@@ -265,8 +265,8 @@ fn the_libraries_are_those_of_this_interface() {
 }
 
 #[test]
-fn a_short_buffer_is_5_and_changes_no_buffer() {
-    let refused = (5, at_the_end());
+fn a_short_buffer_is_5_and_changes_nothing() {
+    let refused = (5, LENT);
     for (delta_qs, mask_count) in [(15, 3), (16, 2), (0, 0)] {
         assert_eq!(seg_info(delta_qs, mask_count), refused);
     }

@@ -1,4 +1,4 @@
-use Rattle.std.proofs.Common.{◌-◌, ◌≤◌}
+use Rattle.std.proofs.Common.{◌≤◌}
 use Rattle.superblocks.proofs.Division.{Settled}
 use Rattle.superblocks.proofs.quotient.quotient.Given as goal
 abbrev pub invariant-loop-k : goal.invariant-loop-k

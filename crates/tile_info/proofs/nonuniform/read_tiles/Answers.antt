@@ -21,7 +21,7 @@ returns c =
     let v : c.number.result ≡ a.total.0 = omega (arith, c.number.ensures, c.requires.1) in
     record {
       counted = z.counted;
-      c = c.tiles_log2-log2.ensures ∙ ap (tile_log2 1) z.counted;
+      log = c.tiles_log2-log2.ensures ∙ ap (tile_log2 1) z.counted;
       left = c.below-short.ensures ∙ ap (λ (x : ℕ). ltb x a.total.0) z.summed;
       wides = z.wides;
       stands = z.stands;
