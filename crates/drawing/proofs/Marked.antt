@@ -11,7 +11,7 @@ use lib.IntN.{pos}
 use lib.ListN.{length, get_or, take}
 use Rattle.getbits.specs.Chain.{pick}
 use Rattle.getbits.proofs.Places.{lt_or_le}
-use Rattle.text.specs.Text.{mark, decimal, signed, filled}
+use Rattle.text.specs.Text.{mark, decimal, signed}
 use Rattle.text.proofs.Filled.{marks, filled_more}
 use Rattle.drawing.specs.Template.{integers, marked}
 

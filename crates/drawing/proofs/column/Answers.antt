@@ -3,4 +3,4 @@ use Rattle.drawing.proofs.column.Goals as goal
 
 pub returns : goal.returns
 unfolding column_of
-returns c = c.Span-of.ensures
+returns c = c.span_of.ensures

@@ -1,5 +1,5 @@
 use mathlib.Core.Path.{◌≡◌}
-use Prim.Native.Nat.{◌+◌, ◌-◌, ◌*◌, ◌≤◌}
+use Prim.Native.Nat.{ℕ, ◌+◌, ◌*◌, ◌≤◌, ◌<◌}
 use native.Mathlib.Nat.{mul-le-mul}
 use native.Mathlib.Omega.{arith}
 use borrow.Author.Rules.{rules}
@@ -11,21 +11,21 @@ use Rattle.text.proofs.Puts.{none, also, within, kept}
 use Rattle.drawing.proofs.put_row.Goals as goal
 
 -- the tiles before the row
-before : (s : goal.Start invariant-loop decreases-loop) → s.args.j * s.args.cols ≤ 4096
-before s = let j : s.args.j ≤ 64 = omega (arith, s.requires.2) in let n : s.args.cols ≤ 64 = omega (arith, s.requires.1) in mul-le-mul j n
+before : {j cols : ℕ} → j < 64 → cols ≤ 64 → j * cols ≤ 4096
+before {j} h n = let l : j ≤ 64 = omega arith in mul-le-mul l n
 
 pub loop-i-init : goal.loop-i-init
 unfolding each
 loop-i-init c = (search rules, none _ _)
 
 pub overflow_mul-k : goal.overflow_mul-k
-overflow_mul-k c = omega (arith, before c)
+overflow_mul-k c = omega (arith, before c.requires.2 c.requires.1)
 
 pub overflow_add-k : goal.overflow_add-k
-overflow_add-k c = omega (arith, before c, c.requires.1)
+overflow_add-k c = omega (arith, before c.requires.2 c.requires.1, c.requires.1)
 
 pub overflow_mul-k-in-loop-i : goal.overflow_mul-k-in-loop-i
-overflow_mul-k-in-loop-i c = omega (arith, before c, c.requires.1)
+overflow_mul-k-in-loop-i c = omega (arith, before c.requires.2 c.requires.1, c.requires.1)
 
 pub rect_at-requires : goal.rect_at-requires
 rect_at-requires c = omega (arith, c.requires.3, c.loop-i-test.true)

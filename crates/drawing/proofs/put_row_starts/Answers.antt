@@ -1,9 +1,9 @@
 use mathlib.Core.Path.{◌≡◌}
-use Prim.Native.Nat.{◌+◌, ◌-◌, ◌*◌, ◌≤◌, ◌<◌}
+use Prim.Native.Nat.{ℕ, ◌+◌, ◌*◌, ◌≤◌, ◌<◌}
 use native.Mathlib.Nat.{add-mul, mul-le-mul, mul-le-mul_right}
 use native.Mathlib.Omega.{arith}
 use borrow.Author.Rules.{rules}
-use lib.ListN.{length, get_or, take, drop}
+use lib.ListN.{get_or, take, drop}
 use Rattle.drawing.specs.Picture.{left_text}
 use Rattle.drawing.specs.View.{row_of}
 use Rattle.rectangles.proofs.Each.{each_more}
@@ -12,26 +12,23 @@ use Rattle.text.proofs.Puts.{none, also, within, kept}
 use Rattle.drawing.proofs.put_row_starts.Goals as goal
 
 -- there are numbers for the row's first tile
-room : (s : goal.Start invariant-loop decreases-loop) (j : _) → j < s.args.rows → (4 * (j * s.args.cols) + 4 ≤ length s.args.xs.now) × (j * s.args.cols ≤ 4096)
-room s j l =
-    let a = s.args in
-    let h : j ≤ 64 = omega (arith, s.requires.2) in (
-      omega (arith, s.requires.3, s.requires.4, mul-le-mul_right {m = j + 1} {n = a.rows} a.cols (omega arith), add-mul j 1 a.cols),
-      mul-le-mul h s.requires.1,
-    )
+room : (j cols rows most : ℕ) → cols ≤ 64 → rows ≤ 64 → 1 ≤ cols → 4 * (rows * cols) ≤ most → j < rows → (4 * (j * cols) + 4 ≤ most) × (j * cols ≤ 4096)
+room j cols rows most c r some h l =
+    let k : j ≤ 64 = omega arith in
+    (omega (arith, mul-le-mul_right {m = j + 1} {n = rows} cols (omega arith), add-mul j 1 cols), mul-le-mul k c)
 
 pub loop-j-init : goal.loop-j-init
 unfolding each
 loop-j-init c = (search rules, none _ _)
 
 pub overflow_mul-j : goal.overflow_mul-j
-overflow_mul-j c = omega (arith, (room c c.loop-j.j c.loop-j-test.true).1)
+overflow_mul-j c = omega (arith, (room _ _ _ _ c.requires.1 c.requires.2 c.requires.3 c.requires.4 c.loop-j-test.true).1)
 
 pub overflow_mul-j-in-loop-j : goal.overflow_mul-j-in-loop-j
-overflow_mul-j-in-loop-j c = omega (arith, (room c c.loop-j.j c.loop-j-test.true).1)
+overflow_mul-j-in-loop-j c = omega (arith, (room _ _ _ _ c.requires.1 c.requires.2 c.requires.3 c.requires.4 c.loop-j-test.true).1)
 
 pub rect_at-requires : goal.rect_at-requires
-rect_at-requires c = (room c c.loop-j.j c.loop-j-test.true).0
+rect_at-requires c = (room _ _ _ _ c.requires.1 c.requires.2 c.requires.3 c.requires.4 c.loop-j-test.true).0
 
 pub row-requires : goal.row-requires
 row-requires c = (c.requires.0, omega (arith, c.requires.2, c.loop-j-test.true))

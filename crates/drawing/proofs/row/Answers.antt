@@ -3,4 +3,4 @@ use Rattle.drawing.proofs.row.Goals as goal
 
 pub returns : goal.returns
 unfolding row_of
-returns c = c.Span-of.ensures
+returns c = c.span_of.ensures
