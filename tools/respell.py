@@ -78,12 +78,18 @@ def main():
                 crate = where.split("/")[0]
                 if camel.get(next((c for c in camel if camel[c] == name), None)) == name and uses(text, name, path, where, crate):
                     table[name] = name + "_lem"
-        text = re.sub(r"(?<![\w'\-])" + NAME + r"(?![\w'\-])", lambda m: table.get(m.group(0), m.group(0)), text)
+        text = "\n".join(turned(line, table, camel) for line in text.split("\n"))
         if text != old:
             with open(path, "w", encoding="utf-8") as f:
                 f.write(text)
             changed += 1
     print(f"respell: {len(camel)} names in camel case, {len(dashed)} with dashes; {changed} files changed")
+
+
+def turned(line, table, camel):
+    """A line with its names turned; in a comment, whose words may have dashes too, only those in camel case."""
+    names = camel if re.match(r"\s*(--|//|#)", line) else table
+    return re.sub(r"(?<![\w'\-])" + NAME + r"(?![\w'\-])", lambda m: names.get(m.group(0), m.group(0)), line)
 
 
 def uses(text, name, path, where, crate):

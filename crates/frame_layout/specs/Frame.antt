@@ -100,7 +100,7 @@ seq_sbw q = superblocks (unsigned q.max_width) q.sb128
 abbrev pub seq_sbh : SeqLayout → ℕ
 seq_sbh q = superblocks (unsigned q.max_height) q.sb128
 
--- a non_uniform layout fits if the sequence's counts equal the frame's. For the pair (1,2) these are counts of superblocks of two sizes: they
+-- a non-uniform layout fits if the sequence's counts equal the frame's. For the pair (1,2) these are counts of superblocks of two sizes: they
 -- are compared all the same, as in the Rust
 unfoldable pub same_counts : TileArgs → SeqLayout → Bool
 same_counts a q = eqb (seq_sbw q) (sbw a) && eqb (seq_sbh q) (sbh a)

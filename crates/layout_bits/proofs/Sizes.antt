@@ -1,4 +1,4 @@
--- The sizes of a non_uniform layout and their bits, for columns and rows alike. Assumes nothing.
+-- The sizes of a non-uniform layout and their bits, for columns and rows alike. Assumes nothing.
 use mathlib.Core.Path.{◌≡◌, refl, sym, ap, ◌∙◌}
 use mathlib.Core.Bool.{false}
 use mathlib.Core.List.{List, [], ◌∷◌}

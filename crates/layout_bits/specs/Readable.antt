@@ -16,7 +16,7 @@ pub record Fills (most whole limit : ℕ) (sizes : List ℕ) : Type 0 where
   pub adds : sum sizes ≡ whole
   pub each : (k : ℕ) → k < length sizes → (1 ≤ get_or sizes k 0) × (get_or sizes k 0 ≤ limit)
 
--- over a record `old`: a uniform layout by two logarithms, a non_uniform one by its widths and heights
+-- over a record `old`: a uniform layout by two logarithms, a non-uniform one by its widths and heights
 pub data Readable (old : TileInfo) (a : TileArgs) (t : TileInfo) : Type 0 where
   even : (c r : ℕ) → InLog (min_log2_cols a) (max_log2_cols a) c → InLog (min_log2_tiles a - c) (max_log2_rows a) r → t ≡ uniform_info a c r → Readable old a t
   sized : (w h : List ℕ) → Fills 64 (sbw a) (width_limit a) w → Fills 64 (sbh a) (row_limit a (widest w)) h → t ≡ non_uniform_info a old w h → Readable old a t

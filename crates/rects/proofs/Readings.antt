@@ -15,7 +15,7 @@ use Rattle.rectangles.specs.Rectangles.{rising, has_rectangles, each}
 use Rattle.tile_request.specs.Request.{request_over, tile_request}
 use Rattle.rects.specs.Print.{rectangles_text, read_text, tile_rects_text, rects_text}
 
--- 256 by 128, non_uniform: columns 0 2 3 4, rows 0 1 2
+-- 256 by 128, non-uniform: columns 0 2 3 4, rows 0 1 2
 two_rows :
     rects_text (0 ∷ 0xFF ∷ 0 ∷ 0x7F ∷ 0 ∷ 0 ∷ 0 ∷ 0 ∷ 0 ∷ 0x20 ∷ [])
     ≡ word "ok 6\n0 0 128 64\n128 0 64 64\n192 0 64 64\n0 64 128 64\n128 64 64 64\n192 64 64 64\n"

@@ -1,4 +1,4 @@
--- The logarithms stay within 6, and the tiles of a non_uniform layout within the area limit. Assumes nothing.
+-- The logarithms stay within 6, and the tiles of a non-uniform layout within the area limit. Assumes nothing.
 use mathlib.Core.Path.{◌≡◌, sym, ◌∙◌, ap, subst}
 use Prim.Native.Nat.{ℕ, zero, suc, ◌+◌, ◌-◌, ◌*◌, ◌/◌, ◌^◌, min, max, ◌≤◌}
 use native.Mathlib.Nat.{mul_assoc, mul_right_comm, mul-le-mul, mul-le-mul_left, mul-le-mul_right, le_of_mul-le-mul_right, le_trans, le_of_eq, mul-div-le, div-le_of_le-mul, mul-one, mul_comm}

@@ -36,7 +36,7 @@ cut {n} {closing} {limit} {e} some few first last step =
       adds = omega (arith, telescope e 0 n (λ i _ h. omega (arith, step i (omega arith))), ap e (zero-add n));
     }
 
--- the sizes that the non_uniform rule reads, where they fill the frame
+-- the sizes that the non-uniform rule reads, where they fill the frame
 pub sized_cut : (sizes : List ℕ) (closing limit : ℕ) → Sized 64 closing limit sizes → sum sizes ≡ closing → 1 ≤ closing
     → Cut (length sizes) closing limit (λ k. get_or (padded (non_uniform_edges sizes closing)) k 0)
 sized_cut sizes closing limit z whole h =

@@ -1,4 +1,4 @@
--- The sizes of a non_uniform layout, and the edges that they give. Assumes nothing.
+-- The sizes of a non-uniform layout, and the edges that they give. Assumes nothing.
 use mathlib.Core.Path.{◌≡◌, refl, sym, ◌∙◌, ap}
 use mathlib.Core.List.{List, [], ◌∷◌, ◌++◌}
 use Prim.Native.Nat.{ℕ, zero, suc, ◌+◌, ◌-◌, min, ◌≤◌, ◌<◌}

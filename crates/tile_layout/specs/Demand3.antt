@@ -16,7 +16,7 @@ Uniform s p = (get_bit s p).value ≡ 1
 abbrev pub NonUniform : List ℕ → Place → Type 0
 NonUniform s p = (get_bit s p).value ≡ 0
 
--- the sizes that the non_uniform rule reads behind the flag
+-- the sizes that the non-uniform rule reads behind the flag
 abbrev pub cols_read : List ℕ → Place → TileArgs → Sizes
 cols_read s p a = read_cols s (get_bit s p).next a
 
@@ -58,7 +58,7 @@ pub record AcceptedLayout (s : List ℕ) (p : Place) (a : TileArgs) (t : TileInf
   pub cols_add_up : sum (tabulate (col_size t) 0 t.cols) ≡ sbw a
   -- and the rows to its height
   pub rows_add_up : sum (tabulate (row_size t) 0 t.rows) ≡ sbh a
-  -- no tile of a non_uniform one covers more superblocks than the level's area limit
+  -- no tile of a non-uniform one covers more superblocks than the level's area limit
   pub area_limit_lem : NonUniform s p → (i j : ℕ) → i < t.cols → j < t.rows → col_size t i * row_size t j ≤ area_limit a
   -- in a uniform one no column is more than one superblock larger than another column,
   -- if frame and sequence superblocks have one size
@@ -71,7 +71,7 @@ pub record AcceptedLayout (s : List ℕ) (p : Place) (a : TileArgs) (t : TileInf
 pub record Demand3 (s : List ℕ) (p : Place) (a : TileArgs) (z : TileRead) : Type 0 where
   -- a uniform layout is never refused
   pub uniform_never_refused : Uniform s p → is_refusal z.answer ≡ false
-  -- a non_uniform one is refused exactly when 64 columns leave superblocks over or, if they don't, 64 rows do, and then with 2
+  -- a non-uniform one is refused exactly when 64 columns leave superblocks over or, if they don't, 64 rows do, and then with 2
   pub refused_with_2 : NonUniform s p → LeaveOver s p a → number_of z.answer ≡ 2
   pub refused_only_then : NonUniform s p → is_refusal z.answer ≡ true → LeaveOver s p a
   pub accepted : is_refusal z.answer ≡ false → AcceptedLayout s p a z.info

@@ -32,7 +32,7 @@ even : List ℕ → ℕ → ℕ → List ℕ
 even cols log2 size =
     0x57 ∷ 0x02 ∷ 0x7F ∷ 0 ∷ 1 ∷ 2 ∷ 0 ∷ 0 ∷ 1 ∷ 0 ∷ 3 ∷ log2 ∷ 3 ∷ 0 ∷ 0 ∷ 0 ∷ 1 ∷ (starts cols ++ starts (0 ∷ 1 ∷ []) ++ (size ∷ 0 ∷ []))
 
--- 1280 by 720, non_uniform: four columns of five superblocks, two rows of six
+-- 1280 by 720, non-uniform: four columns of five superblocks, two rows of six
 sized : List ℕ
 sized =
     0xFF ∷ 0x04 ∷ 0xCF ∷ 0x02 ∷ 0 ∷ 0 ∷ 0 ∷ 0 ∷ 0 ∷ 0 ∷ 5 ∷ 2 ∷ 4 ∷ 0 ∷ 4 ∷ 1 ∷ 2 ∷ (starts (0 ∷ 5 ∷ 10 ∷ 15 ∷ 20 ∷ []) ++ starts (0 ∷ 6 ∷ 12 ∷ []) ++ (3 ∷ 0 ∷ []))
