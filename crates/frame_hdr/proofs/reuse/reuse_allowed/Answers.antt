@@ -8,14 +8,11 @@ use Rattle.tile_layout.proofs.Domain.{domain, low_code, low_seq_code}
 use Rattle.frame_layout.specs.Frame.{is_off}
 use Rattle.frame_hdr.proofs.reuse.reuse_allowed.Goals as goal
 
-pub returns-then-is_off : goal.returns-then-is_off
-returns-then-is_off c = sym (taken _ _ _ (sym c.is_off.ensures ∙ c.if-is_off.true))
-
 pub returns-then-uniform : goal.returns-then-uniform
 returns-then-uniform c =
     let on : is_off c.args.present ≡ false = sym c.is_off.ensures ∙ c.if-is_off.false in
     let code : min c.of-pair.result.frame_code 2 ≡ c.args.a.frame_code = omega (arith, c.of-pair.ensures.0, low_code _ (domain _ c.requires.a_value)) in
-    let small = c.requires.log2_cols_bound.0 (on) in
+    let small = c.requires.log2_cols_bound on in
     let w : c.args.log2_cols % 32 ≡ c.args.log2_cols = omega (arith, small.0) in
     let h : c.args.log2_rows % 32 ≡ c.args.log2_rows = omega (arith, small.1) in
     rw (c.fits_uniform-then-uniform.ensures, c.fits_uniform.ensures, c.frame_count-sbh.ensures, c.frame_count-sbw.ensures, code, w, h)

@@ -3,7 +3,7 @@ use mathlib.Core.Path.{◌≡◌, ◌∙◌, ap}
 use Prim.Native.Nat.{ℕ, ◌*◌, ◌≤◌}
 use native.Mathlib.Omega.{arith}
 use lib.Dec.{eqb}
-use lib.ListN.{get_or, take, set, length-set}
+use lib.ListN.{get_or, take, set}
 use Rattle.getbits.specs.Chain.{pick}
 use Rattle.getbits.proofs.Chain.{picked}
 use Rattle.tile_layout.proofs.Laws.{closed}
@@ -11,22 +11,6 @@ use Rattle.superblocks.specs.Counts.{multiplier_of}
 use Rattle.frame_layout.specs.Frame.{reused_starts}
 use Rattle.frame_layout.proofs.Usable.{start_low}
 use Rattle.frame_hdr.proofs.reuse.reused_starts.Goals as goal
-
-pub frame_starts-requires : goal.frame_starts-requires
-frame_starts-requires c =
-    (c.requires.0, c.requires.1, c.requires.2)
-
-pub closing_entry-requires : goal.closing_entry-requires
-closing_entry-requires c =
-    (c.requires.1, c.requires.2)
-
-pub bounds-at-tiles : goal.bounds-at-tiles
-bounds-at-tiles c =
-    omega (arith, c.at-1.given, c.requires.0, c.requires.1)
-
-pub shape_of-at : goal.shape_of-at
-shape_of-at c =
-    length-set c.frame_starts.new.0 _ _ ∙ c.at-1.given
 
 pub returns : goal.returns
 unfolding reused_starts
@@ -38,6 +22,6 @@ returns c =
     let low : entry ≤ 1024 =
     picked (λ (x : ℕ). x ≤ 1024) (eqb multiplier 2) _ _ (λ _. c.requires.3) (λ _. start_low starts a.tiles a.tiles c.requires.2 (omega arith)) in
     let v : c.number.result ≡ entry = omega (arith, c.number.ensures, c.closing_entry.ensures, low) in
-    ap (set c.frame_starts.new.0 a.tiles) v
+    ap (set c.frame_starts.new.at a.tiles) v
     ∙ ap (λ (t : List ℕ). set t a.tiles entry) c.frame_starts.ensures
     ∙ closed (λ i. multiplier * get_or starts i 0) _ a.tiles entry (omega (arith, c.requires.1))
