@@ -1,19 +1,19 @@
 use mathlib.Core.List.{List}
 use mathlib.Core.Path.{◌≡◌, refl, ◌∙◌, ap}
-use Prim.Native.Nat.{ℕ, ◌-◌}
+use Prim.Native.Nat.{ℕ}
 use native.Mathlib.Omega.{arith}
 use Rattle.getbits.specs.Bits.{read_bits, get_bit, get_flag}
 use Rattle.getbits.specs.declared.Number.{Number}
 use Rattle.getbits.specs.declared.Place.{Place}
 use Rattle.getbits.proofs.Callers.{as_read}
-use Rattle.flat.specs.Layout.{Buffers, buffers, put_layout}
+use Rattle.flat.specs.Layout.{buffers, put_layout}
 use Rattle.flat.proofs.Room.{room, put_over}
 use Rattle.tile_info.proofs.Into.{in_front}
 use Rattle.tile_info.proofs.Rules.{uniform_made}
 use Rattle.tile_layout.proofs.Area.{min_cols, max_cols, min_rows, max_rows}
 use Rattle.tile_layout.proofs.Logs.{log_read}
 use Rattle.tile_layout.proofs.Domain.{domain}
-use Rattle.tile_layout.specs.Layout.{padded, uniform_edges, read_log2}
+use Rattle.tile_layout.specs.Layout.{padded, uniform_edges}
 use Rattle.tile_layout.specs.declared.TileRead.{TileRead}
 use Rattle.tile_info.proofs.uniform_layout.Goals as goal
 

@@ -1,5 +1,4 @@
-use mathlib.Core.Path.{◌≡◌, refl, sym, ◌∙◌}
-use native.Mathlib.Omega.{arith}
+use mathlib.Core.Path.{refl, sym, ◌∙◌}
 use borrow.Author.Tests.{ltb-true, ltb-false}
 use lib.ListN.{length-set}
 use Rattle.flat.proofs.Room.{cleared_front, cleared_rest}

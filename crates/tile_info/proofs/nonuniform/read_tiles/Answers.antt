@@ -10,7 +10,7 @@ use Rattle.tile_info.proofs.nonuniform.read_tiles.Goals as goal
 
 pub bounds-starts-tiles : goal.bounds-starts-tiles
 bounds-starts-tiles c =
-    omega (arith, c.read_sizes-z.ensures.few, c.starts-1.given, c.requires.0)
+    omega (arith, c.read_sizes-z.ensures.few, c.requires.0)
 
 pub returns : goal.returns
 returns c =
