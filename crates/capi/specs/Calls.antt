@@ -19,7 +19,7 @@ lent_seg_info s position error deltas masks ext =
     pick (leb 16 (length deltas) && leb 3 (length masks))
     (then (parse_seg_info s (place_of position error) (seg_info_of deltas masks) (is_set ext)) λ r.
     (answered Accepted r.next error, over_front 16 r.seg.delta_q deltas, over_front 3 (flat_masks r.seg) masks))
-    (too_short s position error, deltas, masks)
+    (too_short position error, deltas, masks)
 
 -- parse_seq_hdr into 146 lent numbers and the buffers of a layout; a refused header writes the zero record
 unfoldable pub lent_header : List ℕ → ℕ → ℕ → ℕ → List ℤ → Buffers → List ℕ × List ℤ × Buffers
@@ -27,7 +27,7 @@ lent_header s position error strict hdr b =
     pick (leb 146 (length hdr) && has_room b)
     (then (parse_seq_hdr s (place_of position error) (is_set strict)) λ r.
     (answered r.answer r.next error, over_front 146 (flat_seq_hdr r.hdr) hdr, put_layout r.hdr.tiling.t b))
-    (too_short s position error, hdr, b)
+    (too_short position error, hdr, b)
 
 -- write_tile_info over the buffers of a layout: the answer's number, how many bits, and the buffer that they are written into
 unfoldable pub lent_write : Buffers → TileArgs → List ℕ → ℕ × ℕ × List ℕ

@@ -2,15 +2,15 @@
 #![tactic(auto)]
 
 ghost use Rattle.std.specs.Prelude.{[], ◌∷◌, ◌++◌, ◌≡◌, ◌≤◌, pos, replicate, drop};
-ghost use Rattle.flat.specs.Layout.{buffers, layout_in};
+ghost use Rattle.flat.specs.Layout.{buffers};
 ghost use Rattle.lent.specs.Lent.{place_of};
 ghost use Rattle.tile_layout.specs.Limits.{args_of};
-ghost use Rattle.seq_hdr.specs.HeaderLayout.{HeaderLayout};
+ghost use Rattle.capi.specs.Promises.{HeaderLeft};
 ghost use Rattle.capi.specs.Calls.{lent_seg_info, lent_header, lent_write};
 
 use answers::number;
 use flat::{has_room, put_delta_q, put_masks, seg_info_of, tile_info_of};
-use lent::{is_set, place_of, put_place, settle_place};
+use lent::{is_set, place_of, put_place};
 use seg_info::parse_seg_info;
 use seq_hdr::read_seq_hdr;
 use tile_write::write_tile_info;
@@ -48,11 +48,9 @@ pub extern "C" fn mubanlig_parse_seg_info(
     ensures masks_unchanged { (result ≡ 0 → ⊥) → masks.new ≡ masks.old }
 {
     if delta_q.len() < 16 {
-        settle_place(s, &mut *position, &mut *error);
         return 5;
     }
     if masks.len() < 3 {
-        settle_place(s, &mut *position, &mut *error);
         return 5;
     }
     let p = place_of(*position, *error);
@@ -88,14 +86,12 @@ pub extern "C" fn mubanlig_parse_seq_hdr(
     ensures col_start_sb_after { 1 ≤ result → result ≤ 3 → col_start_sb.new ≡ replicate 65 0 ++ drop 65 col_start_sb.old }
     ensures row_start_sb_after { 1 ≤ result → result ≤ 3 → row_start_sb.new ≡ replicate 65 0 ++ drop 65 row_start_sb.old }
     ensures fact { let after = buffers info.new col_start_sb.new row_start_sb.new in
-        ((result ≡ 5 → ⊥) → HeaderLayout s.now (place_of position.old error.old) result (layout_in after)) }
+        ((result ≡ 5 → ⊥) → HeaderLeft s.now (place_of position.old error.old) result after) }
 {
     if hdr.len() < 146 {
-        settle_place(s, &mut *position, &mut *error);
         return 5;
     }
     if !has_room(&*info, &*col_start_sb, &*row_start_sb) {
-        settle_place(s, &mut *position, &mut *error);
         return 5;
     }
     let p = place_of(*position, *error);

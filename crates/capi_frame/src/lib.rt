@@ -70,11 +70,9 @@ pub extern "C" fn mubanlig_parse_tile_info_frmhdr(
     ensures cleared { result ≡ 0 → Cleared (layout_in (buffers info.new col_start_sb.new row_start_sb.new)) }
 {
     if !has_room(&*info, &*col_start_sb, &*row_start_sb) {
-        settle_place(s, &mut *position, &mut *error);
         return 5;
     }
     if !has_room(seq_info, seq_col_start_sb, seq_row_start_sb) {
-        settle_place(s, &mut *position, &mut *error);
         return 5;
     }
     if !is_known(frame_type, present) {

@@ -19,4 +19,4 @@ lent_film_grain s position error layout fgd =
     (then (parse_film_grain_data s (place_of position error) (layout_of layout)) λ r.
     (answered r.answer r.next error, over_front 186 (flat_film_grain r.fgd) fgd))
     (answered WrongArguments (settled s (place_of position error)) error, fgd))
-    (too_short s position error, fgd)
+    (too_short position error, fgd)

@@ -37,7 +37,6 @@ pub extern "C" fn mubanlig_parse_film_grain_data(
     ensures lists_left { result ≡ 0 → ListsLeft fgd.new }
 {
     if fgd.len() < 186 {
-        settle_place(s, &mut *position, &mut *error);
         return 5;
     }
     if 3 < layout {

@@ -58,6 +58,9 @@ pub extern "C" fn mubanlig_parse_tile_info(
         (tiles_left result after (place_of position.new error.new))) }
     ensures cleared { result ≡ 0 → Cleared (layout_in (buffers info.new col_start_sb.new row_start_sb.new)) }
 {
+    if !has_room(&*info, &*col_start_sb, &*row_start_sb) {
+        return 5;
+    }
     let p = place_of(*position, *error);
     let r = parse_tile_info_into(
         s,

@@ -14,7 +14,7 @@ limit_given cols rows = record { cols = cols; rows = rows }
 
 -- parse_tile_info_within over the buffers of a layout
 abbrev pub lent_tile_info_within : List ℕ → ℕ → ℕ → Buffers → TileArgs → TileLimit → List ℕ × Buffers
-lent_tile_info_within s position error b a m = lent_tiles (λ p old. parse_tile_info_within s p old a m) s position error b
+lent_tile_info_within s position error b a m = lent_tiles (λ p old. parse_tile_info_within s p old a m) position error b
 
 -- parse_tile_info_frmhdr_within over the buffers of the frame's layout and of the sequence's
 abbrev pub lent_frame_within : List ℕ → ℕ → ℕ → Buffers → Buffers → Bool → FrameHeader → SeqLayout → TileLimit → List ℕ × ℕ × Buffers

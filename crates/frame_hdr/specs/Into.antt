@@ -3,7 +3,6 @@
 use Rattle.std.specs.Prelude.{◌&&◌, List, ℕ, ℤ}
 use Rattle.answers.specs.Numbers.{is_refusal}
 use Rattle.answers.specs.declared.Answer.TheVariants.{ShortBuffer}
-use Rattle.getbits.specs.Bits.{settled}
 use Rattle.getbits.specs.Chain.{pick}
 use Rattle.getbits.specs.declared.Place.{Place}
 use Rattle.seq_fields.specs.declared.AdaptiveBoolean.{AdaptiveBoolean}
@@ -36,7 +35,7 @@ unfoldable pub parse_tile_info_frmhdr_into : List ℕ → Place → Buffers → 
 parse_tile_info_frmhdr_into s p b seq h q =
     pick (has_room b && has_room seq)
     (frame_into (parse_tile_info_frmhdr s p h q) b)
-    (record { answer = ShortBuffer; sb128 = h.sb128; next = settled s p }, b)
+    (record { answer = ShortBuffer; sb128 = h.sb128; next = p }, b)
 
 -- the reading that a call leaves: its answer, the frame given with its code and the layout in the buffers after it, and the place
 abbrev pub frame_layout_left : FrameHeader → FrameOutcome → Buffers → FrameRead

@@ -195,10 +195,18 @@ pub fn frame_layout_into(
         (has_room before && has_room seq-before ≡ true → FrameLayout s.now p hdr seq (frame_layout_left hdr result after)) }
 {
     if !has_room(&*info, &*cols, &*rows) {
-        return unread(s, p, Answer::ShortBuffer, sb128);
+        return FrameOutcome {
+            answer: Answer::ShortBuffer,
+            sb128,
+            next: p,
+        };
     }
     if !has_room(seq_info, seq_cols, seq_rows) {
-        return unread(s, p, Answer::ShortBuffer, sb128);
+        return FrameOutcome {
+            answer: Answer::ShortBuffer,
+            sb128,
+            next: p,
+        };
     }
     let sized = is_extent(width) & is_extent(height);
     let usable = is_usable(

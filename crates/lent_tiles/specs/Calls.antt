@@ -30,12 +30,12 @@ handed_frame r error code b = (
   pick (is_refusal r.answer) b (put_layout r.hdr.tiling b),
 )
 
--- a reading of a layout from a place of the bytes s and over a layout, called over lent buffers
-unfoldable pub lent_tiles : (Place → TileInfo → TileRead) → List ℕ → ℕ → ℕ → Buffers → List ℕ × Buffers
-lent_tiles read s position error b =
+-- a reading of a layout from a place and over a layout, called over lent buffers
+unfoldable pub lent_tiles : (Place → TileInfo → TileRead) → ℕ → ℕ → Buffers → List ℕ × Buffers
+lent_tiles read position error b =
     pick (has_room b)
     (then (read (place_of position error) (layout_in b)) λ r. handed_tiles r error b)
-    (too_short s position error, b)
+    (too_short position error, b)
 
 -- is each of the two numbers one of them?
 abbrev pub is_known : ℕ → ℕ → Bool
@@ -57,11 +57,11 @@ lent_frames read s position error code b seq known =
     (pick known
     (then (read (place_of position error)) λ r. handed_frame r error code b)
     (answered WrongArguments (settled s (place_of position error)) error, code, b))
-    (too_short s position error, code, b)
+    (too_short position error, code, b)
 
 -- parse_tile_info over the buffers of a layout
 abbrev pub lent_tile_info : List ℕ → ℕ → ℕ → Buffers → TileArgs → List ℕ × Buffers
-lent_tile_info s position error b a = lent_tiles (λ p old. parse_tile_info s p old a) s position error b
+lent_tile_info s position error b a = lent_tiles (λ p old. parse_tile_info s p old a) position error b
 
 -- parse_tile_info_frmhdr over the buffers of the frame's layout and of the sequence's
 abbrev pub lent_frame : List ℕ → ℕ → ℕ → Buffers → Buffers → Bool → FrameHeader → SeqLayout → List ℕ × ℕ × Buffers

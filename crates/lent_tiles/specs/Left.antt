@@ -6,11 +6,10 @@ use Rattle.answers.specs.declared.Answer.TheVariants.{WrongArguments, ShortBuffe
 use Rattle.getbits.specs.Chain.{pick}
 use Rattle.getbits.specs.declared.Place.{Place}
 use Rattle.tile_layout.specs.declared.TileRead.{TileRead}
-use Rattle.tile_info.specs.Into.{layout_left}
-use Rattle.frame_hdr.specs.Into.{frame_layout_left}
+use Rattle.frame_layout.specs.Frame.{with_layout}
 use Rattle.frame_layout.specs.declared.FrameHeader.{FrameHeader}
 use Rattle.frame_layout.specs.declared.FrameRead.{FrameRead}
-use Rattle.flat.specs.Layout.{Buffers}
+use Rattle.flat.specs.Layout.{Buffers, layout_in}
 
 -- the answer that has a number
 abbrev pub answer_of : ℕ → Answer
@@ -21,8 +20,8 @@ answer_of n =
 
 -- the layout that a call leaves
 abbrev pub tiles_left : ℕ → Buffers → Place → TileRead
-tiles_left n b p = layout_left (record { answer = answer_of n; next = p }) b
+tiles_left n b p = record { answer = answer_of n; info = layout_in b; next = p }
 
 -- the frame that a call leaves
 abbrev pub frame_left : FrameHeader → ℕ → ℕ → Buffers → Place → FrameRead
-frame_left h n code b p = frame_layout_left h (record { answer = answer_of n; sb128 = code; next = p }) b
+frame_left h n code b p = record { answer = answer_of n; hdr = with_layout h code (layout_in b); next = p }

@@ -2,8 +2,7 @@
 #![tactic(auto)]
 
 ghost use Rattle.std.specs.Prelude.{◌≡◌, drop};
-ghost use Rattle.answers.specs.Numbers.{number_of};
-ghost use Rattle.getbits.specs.Bits.{settled, get_bit, get_bits, byte_pos, byte_align};
+ghost use Rattle.getbits.specs.Bits.{get_bit, get_bits, byte_pos, byte_align};
 ghost use Rattle.codes.specs.Codes.{get_vlc, get_uniform};
 ghost use Rattle.seq_hdr.specs.Header.{parse_seq_hdr};
 ghost use Rattle.seq_hdr.specs.HeaderLayout.{HeaderLayout};
@@ -93,18 +92,19 @@ impl<'a> GetBits<'a> {
         }
     }
 
-    // At a place: one past the last bit, or with more than 7 bits used, counts as the end, and every operation hands it back as the end.
+    // At a place, which is kept as it is given: one past the last bit, or with more than 7 bits used, counts as the end,
+    // and the first operation hands it back as the end.
     pub fn at_place(data: &'a [u8], at: Place) -> GetBits<'a>
         ensures { result ≡ reader_at «data».entry at }
     {
         GetBits { data, at }
     }
 
-    // Where the reader stands.
+    // The place as at_place was given it, or as the last operation handed it back.
     pub fn place(self) -> Place
-        ensures { result ≡ settled self.entry.«data».now self.entry.at }
+        ensures { result ≡ self.entry.at }
     {
-        getbits::settle(self.data, self.at)
+        self.at
     }
 
     pub fn has_error(self) -> bool
@@ -151,7 +151,7 @@ impl<'a> GetBits<'a> {
 
     pub fn parse_seq_hdr(self, strict: bool) -> SeqHdrRead<'a>
         ensures value { result ≡ seq_hdr_of self.entry.«data» (parse_seq_hdr self.entry.«data».now self.entry.at strict) }
-        ensures header_layout { HeaderLayout self.entry.«data».now self.entry.at (number_of result.answer) result.hdr.tiling.t }
+        ensures header_layout { HeaderLayout self.entry.«data».now self.entry.at (seq_read_of result) }
     {
         after_seq_hdr(
             self.data,
@@ -205,7 +205,7 @@ impl<'a> SeqHdrRead<'a> {
 // The sequence header at the start of the bytes. The parameters are plain, so its callers are covered.
 pub fn read_seq_hdr(data: &[u8], strict: bool) -> SeqRead
     ensures value { result ≡ parse_seq_hdr «data».now start strict }
-    ensures header_layout { HeaderLayout «data».now start (number_of result.answer) result.hdr.tiling.t }
+    ensures header_layout { HeaderLayout «data».now start result }
 {
     GetBits::new(data).parse_seq_hdr(strict).by_value()
 }

@@ -229,6 +229,9 @@ table =
     -- (P) The listing above: input FF 00 7F 00 00 00 00 00 28, which asks for 256 by 128 and has the tiling bits 28, prints three lines.
     tile_input (0xFF ∷ 0x00 ∷ 0x7F ∷ 0x00 ∷ 0x00 ∷ 0x00 ∷ 0x00 ∷ 0x00 ∷ 0x28 ∷ [])
     gives prints (word "ok N 3 1 5 0\n0 2 3 4\n0 2\n")
+    -- (P) The same as a layout: 256 by 128 with the tiling bits 28; ok N 3 1 5 0, 0 2 3 4, 0 2.
+    ∷ layout (frame 256 128) (0x28 ∷ [])
+    gives ok false 3 1 5 false (0 ∷ 2 ∷ 3 ∷ 4 ∷ []) (0 ∷ 2 ∷ []) 2
     -- (P) 320 by 64, E0: columns 0 2 3 4 5.
     ∷ layout (frame 320 64) (0xE0 ∷ [])
     gives ok true 4 1 4 false (0 ∷ 2 ∷ 3 ∷ 4 ∷ 5 ∷ []) (0 ∷ 1 ∷ []) 2

@@ -2,7 +2,7 @@
 use Rattle.std.specs.Prelude.{◌≡◌, Bool, false, List, ◌++◌, ℕ, ℤ}
 use Rattle.answers.specs.Numbers.{is_refusal}
 use Rattle.answers.specs.declared.Answer.TheVariants.{InvalidSequenceHeader, InvalidTileInfo, ShortBuffer}
-use Rattle.getbits.specs.Bits.{settled, get_flag}
+use Rattle.getbits.specs.Bits.{get_flag}
 use Rattle.getbits.specs.Chain.{pick, then}
 use Rattle.getbits.specs.declared.Place.{Place}
 use Rattle.tile_layout.specs.Limits.{no_tile_info}
@@ -27,7 +27,7 @@ parse_seq_hdr_into s p strict out b =
     pick (has_room b)
     (then (parse_seq_hdr s p strict) λ r.
     (record { answer = r.answer; next = r.next }, over_front 146 (flat_seq_hdr r.hdr) out, put_layout r.hdr.tiling.t b))
-    (record { answer = ShortBuffer; next = settled s p }, out, b)
+    (record { answer = ShortBuffer; next = p }, out, b)
 
 -- Private functions alone cite what follows.
 

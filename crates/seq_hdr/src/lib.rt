@@ -3,14 +3,13 @@
 
 ghost use Rattle.std.specs.Prelude.{◌≡◌, true, ltb};
 ghost use Rattle.answers.specs.Numbers.{number_of, is_refusal};
-ghost use Rattle.answers.specs.declared.Answer.TheVariants.{ShortBuffer};
-ghost use Rattle.getbits.specs.Bits.{settled};
 ghost use Rattle.getbits.specs.Chain.{pick};
 ghost use Rattle.flat.specs.Layout.{buffers, has_room, put_layout, layout_in};
 ghost use Rattle.tile_layout.specs.Limits.{no_tile_info};
 ghost use Rattle.seq_hdr.specs.Into.{parse_seq_hdr_into, HeadPut, TilingInto, ask_end, ended_header, read_rest, whole_rest};
 ghost use Rattle.seq_hdr.specs.Tiling.{read_tiling};
 ghost use Rattle.seq_hdr.specs.HeaderLayout.{HeaderLayout};
+ghost use Rattle.seq_hdr.specs.HeaderTiling.{HeaderTiling};
 ghost use Rattle.seq_hdr.specs.Header.{read_start, unknown_profile, refused_header};
 ghost use Rattle.seq_hdr.specs.Header.{read_groups, read_head, with_tiling, parse_seq_hdr};
 
@@ -21,7 +20,7 @@ use flat_hdr::{
     put_blocks, put_filters, put_head, put_inter, put_last, put_motion, put_picture, put_residual,
     put_zeros,
 };
-use getbits::{Place, get_flag, read_bits};
+use getbits::{Place, get_flag};
 use seq_blocks::read_blocks;
 use seq_fields::{AdaptiveBoolean, adaptive_or, get_small, is_mono};
 use seq_inter::{read_inter, read_motion, read_ref_frames};
@@ -350,18 +349,6 @@ fn read_rest(
     }
 }
 
-// A lent buffer is too short: no bit is used.
-fn too_short(s: &[u8], p: Place) -> HeaderOutcome
-    ensures { result ≡ record { answer = ShortBuffer; next = settled s.now p } }
-{
-    let here = read_bits(s, p, 0);
-    let next = here.next;
-    HeaderOutcome {
-        answer: Answer::ShortBuffer,
-        next,
-    }
-}
-
 // parse_seq_hdr into lent buffers: the numbers, and those of the layout. A refused header's are zeros.
 pub fn read_seq_hdr(
     s: &[u8],
@@ -380,10 +367,13 @@ pub fn read_seq_hdr(
         (has_room before ≡ true → layout_in after ≡ (parse_seq_hdr s.now p strict).hdr.tiling.t) }
     ensures fact_2 { let before = buffers info.old cols.old rows.old in
         let after = buffers info.new cols.new rows.new in
-        (has_room before ≡ true → HeaderLayout s.now p (number_of result.answer) (layout_in after)) }
+        (has_room before ≡ true → HeaderTiling s.now p (number_of result.answer) (layout_in after)) }
 {
     if !has_room(&*info, &*cols, &*rows) {
-        return too_short(s, p);
+        return HeaderOutcome {
+            answer: Answer::ShortBuffer,
+            next: p,
+        };
     }
     clear_layout(&mut *info, &mut *cols, &mut *rows);
     let head = read_head(s, p, &mut *out);
@@ -418,7 +408,7 @@ pub fn read_seq_hdr(
 // The record by value: it lends the numbers and the layout buffers of its own.
 pub fn parse_seq_hdr(s: &[u8], p: Place, strict: bool) -> SeqRead
     ensures value { result ≡ parse_seq_hdr s.now p strict }
-    ensures header_layout { HeaderLayout s.now p (number_of result.answer) result.hdr.tiling.t }
+    ensures header_layout { HeaderLayout s.now p result }
 {
     let mut numbers = [0i64; 146];
     let head = read_head(s, p, &mut numbers);

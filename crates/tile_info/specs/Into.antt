@@ -2,7 +2,6 @@
 use Rattle.std.specs.Prelude.{List, ℕ}
 use Rattle.answers.specs.Numbers.{is_refusal}
 use Rattle.answers.specs.declared.Answer.TheVariants.{ShortBuffer}
-use Rattle.getbits.specs.Bits.{settled}
 use Rattle.getbits.specs.Chain.{pick}
 use Rattle.getbits.specs.declared.Place.{Place}
 use Rattle.tile_layout.specs.Layout.{parse_tile_info}
@@ -18,7 +17,7 @@ read_into r b = (record { answer = r.answer; next = r.next }, pick (is_refusal r
 -- where one of them lacks room: 5, no bit used
 unfoldable pub parse_tile_info_into : List ℕ → Place → Buffers → TileArgs → TileOutcome × Buffers
 parse_tile_info_into s p b a =
-    pick (has_room b) (read_into (parse_tile_info s p (layout_in b) a) b) (record { answer = ShortBuffer; next = settled s p }, b)
+    pick (has_room b) (read_into (parse_tile_info s p (layout_in b) a) b) (record { answer = ShortBuffer; next = p }, b)
 
 -- the reading that a call leaves: its answer, the layout in the buffers after it, and the place
 abbrev pub layout_left : TileOutcome → Buffers → TileRead

@@ -281,7 +281,10 @@ pub fn parse_tile_info_into(
         ReadOver (layout_in before) (layout_left result after) }
 {
     if !has_room(&*info, &*cols, &*rows) {
-        return unread(s, p, Answer::ShortBuffer);
+        return TileOutcome {
+            answer: Answer::ShortBuffer,
+            next: p,
+        };
     }
     let a = tile_args(sbmul, sb128, seq_sb128, w, h, level, tier);
     if in_domain(a) {

@@ -3,7 +3,7 @@
 
 ghost use Rattle.std.specs.Prelude.{◌++◌, ◌≡◌, ◌≤◌, length, take, drop};
 ghost use Rattle.tile_layout.specs.Limits.{args_of};
-ghost use Rattle.layout_writing.specs.Promises.{Writing};
+ghost use Rattle.layout_writing.specs.Called.{WritingOf};
 ghost use Rattle.layout_writing.specs.Write.{same_flag, same_list, same_numbers, same_layout, reads_as, refusal, write_tile_info};
 
 use answers::{Answer, is_refusal};
@@ -98,7 +98,7 @@ pub fn write_tile_info(
     out: &mut [u8],
 ) -> Written
     ensures out_after { (result, out.new) ≡ write_tile_info (args_of sbmul sb128 seq_sb128 w h level tier) t out.old }
-    ensures writing { Writing (args_of sbmul sb128 seq_sb128 w h level tier) t out.old result out.new }
+    ensures writing { WritingOf (args_of sbmul sb128 seq_sb128 w h level tier) t out.old result out.new }
 {
     let a = tile_args(sbmul, sb128, seq_sb128, w, h, level, tier);
     if !in_domain(a) {
