@@ -13,7 +13,7 @@ overflow_cast-result c = omega (arith, c.shared_slice_known-then-byte-s-1.given 
 pub returns-then-byte-s : goal.returns-then-byte-s
 returns-then-byte-s c =
     let a = c.args in
-    bit_on a.s.now a.position.now a.error.now (search rules) refl c.wrapping_add_usize.ensures
+    bit_on a.s.now a.position.now a.error.now (search rules) refl c.wrapping_add_usize.ensures.value
 
 pub returns : goal.returns
 unfolding get_bit

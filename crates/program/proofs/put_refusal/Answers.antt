@@ -9,7 +9,7 @@ use Rattle.program.proofs.put_refusal.Goals as goal
 pub returns-then-n-eq4 : goal.returns-then-n-eq4
 unfolding refusal_text
 returns-then-n-eq4 c =
-    rw (eq-eqb c.args.n 4 c.if-n-eq4.true) (within (omega arith) c.Put-refused.ensures)
+    rw (eq-eqb c.args.n 4 c.if-n-eq4.true) (within (omega arith) c.put_refused.ensures)
 
 pub returns : goal.returns
 unfolding refusal_text word
