@@ -20,16 +20,6 @@ use Rattle.tile_info.specs.declared.TileOutcome.{TileOutcome}
 use Rattle.frame_hdr.specs.declared.FrameOutcome.{FrameOutcome}
 use Rattle.frame_hdr.proofs.fresh_layout.Goals as goal
 
-abbrev start : goal.After-parse_tile_info_into-r → goal.Start
-start z = z.before.before.before.before.before.before.before.before.before
-
--- the buffers lent
-abbrev given : goal.Start → Buffers
-given s = buffers s.args.info.now s.args.cols.now s.args.rows.now
-
-abbrev fresh : goal.Start → TileRead
-fresh s = parse_tile_info s.args.s.now s.args.p (layout_in (given s)) s.args.a
-
 -- the outcome of a reading, with the code n
 module _ (z : TileRead) (b : Buffers) (old code : ℕ) {o : TileOutcome} {after : Buffers} (put : (o, after) ≡ read_into z b) where
   outcome : o ≡ record { answer = z.answer; next = z.next }
@@ -50,17 +40,25 @@ overflow_cast-a c =
 pub returns-then-is_refusal : goal.returns-then-is_refusal
 unfolding parse_tile_info_into
 returns-then-is_refusal c =
-    let small : c.args.a.multiplier < 2 ^ 31 = lt_of_le_of_lt (low_multiplier c.args.a (domain c.args.a c.requires.a_value)) (lit< tt) in
-    let args : args_of (to_z w32 c.args.a.multiplier) c.args.a.frame_code c.args.a.seq_code c.args.width c.args.height c.args.a.level c.args.a.tier ≡ c.args.a = rw (to_z_pos w32 c.args.a.multiplier (small), ← c.requires.width_value.0.0.0, ← c.requires.width_value.0.0.1) refl in
-    let s = start c in
-    let into = simp (to_z-of_z s.fits.width, to_z-of_z s.fits.height, args s) at c.parse_tile_info_into-r.ensures.after_after in
-    coded (fresh s) (given s) s.args.sb128 s.args.a.frame_code (into ∙ taken _ _ _ s.pre.1.1) s.args.sb128 c.is_refusal.ensures c.if-is_refusal.true refl
+    let a = c.args in
+    let small : a.a.multiplier < 2 ^ 31 = lt_of_le_of_lt (low_multiplier a.a (domain a.a c.requires.a_value)) (lit< tt) in
+    let args : args_of (to_z w32 a.a.multiplier) a.a.frame_code a.a.seq_code a.width a.height a.a.level a.a.tier ≡ a.a =
+    rw (to_z_pos w32 a.a.multiplier small, ← c.requires.width_value.0, ← c.requires.width_value.1) refl in
+    -- the buffers lent
+    let given = buffers a.info.now a.cols.now a.rows.now in
+    let fresh = parse_tile_info a.s.now a.p (layout_in given) a.a in
+    let into = simp (to_z-of_z c.ranges.width, to_z-of_z c.ranges.height, args) at c.parse_tile_info_into-r.ensures.after_after in
+    coded fresh given a.sb128 a.a.frame_code (into ∙ taken _ _ _ c.requires.rows_value) a.sb128 c.is_refusal.ensures c.if-is_refusal.true refl
 
 pub returns : goal.returns
 unfolding parse_tile_info_into
 returns c =
-    let small : c.args.a.multiplier < 2 ^ 31 = lt_of_le_of_lt (low_multiplier c.args.a (domain c.args.a c.requires.a_value)) (lit< tt) in
-    let args : args_of (to_z w32 c.args.a.multiplier) c.args.a.frame_code c.args.a.seq_code c.args.width c.args.height c.args.a.level c.args.a.tier ≡ c.args.a = rw (to_z_pos w32 c.args.a.multiplier (small), ← c.requires.width_value.0.0.0, ← c.requires.width_value.0.0.1) refl in
-    let s = start c in
-    let into = simp (to_z-of_z s.fits.width, to_z-of_z s.fits.height, args s) at c.parse_tile_info_into-r.ensures.after_after in
-    coded (fresh s) (given s) s.args.sb128 s.args.a.frame_code (into ∙ taken _ _ _ s.pre.1.1) s.args.a.frame_code c.is_refusal.ensures c.if-is_refusal.false refl
+    let a = c.args in
+    let small : a.a.multiplier < 2 ^ 31 = lt_of_le_of_lt (low_multiplier a.a (domain a.a c.requires.a_value)) (lit< tt) in
+    let args : args_of (to_z w32 a.a.multiplier) a.a.frame_code a.a.seq_code a.width a.height a.a.level a.a.tier ≡ a.a =
+    rw (to_z_pos w32 a.a.multiplier small, ← c.requires.width_value.0, ← c.requires.width_value.1) refl in
+    -- the buffers lent
+    let given = buffers a.info.now a.cols.now a.rows.now in
+    let fresh = parse_tile_info a.s.now a.p (layout_in given) a.a in
+    let into = simp (to_z-of_z c.ranges.width, to_z-of_z c.ranges.height, args) at c.parse_tile_info_into-r.ensures.after_after in
+    coded fresh given a.sb128 a.a.frame_code (into ∙ taken _ _ _ c.requires.rows_value) a.a.frame_code c.is_refusal.ensures c.if-is_refusal.false refl
