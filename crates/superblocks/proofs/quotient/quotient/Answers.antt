@@ -44,8 +44,7 @@ overflow_sub-q-else-part-left c =
 pub loop-k-preserved : goal.loop-k-preserved
 loop-k-preserved c =
     let l = c.loop-k in
-    let e = c.quotient_bits-k.ensures in
-    (
+    let e = c.quotient_bits-k.ensures in (
       omega (arith, l.invariant.0),
       rw (shl_one (l.k - 1) 32 (omega (arith, l.invariant.0, e.1))) (off c.args.n c.args.d c.quotient_bits-k.result l.k l.q l.left c.ranges.n.fits c.ranges.d.fits e.3 c.loop-k-test.true l.invariant.0 l.invariant.1 c.if-part-left.false).1,
     )

@@ -37,7 +37,7 @@ loop-pair-preserved c =
     let end : l.sbx.0 + z.tile.0 ≤ 1024 = ends z l.i l.sbx.0 more c.requires.2 l.invariant.0 in
     let v : c.number.result ≡ m * l.sbx.0 = c.number.ensures ∙ rw c.in_frame.ensures (start_fits m l.sbx.0 (low_multiplier _ _) (omega arith)) in (
       elim c.if-has.branch [
-        then-has w ↦ omega (arith, ap (λ (z : SeqSb). z.0) w.sbx-is, w.plus-sbx-then-has.ensures, w.one.ensures, c.plus-sbx.ensures, times_next z.tile.0 l.i, ltb-true l.i z.extra.0 (sym c.has-in-loop-pair.ensures ∙ w.if-has.true))
+        | then-has w ↦ omega (arith, ap (λ (z : SeqSb). z.0) w.sbx-is, w.plus-sbx-then-has.ensures, w.one.ensures, c.plus-sbx.ensures, times_next z.tile.0 l.i, ltb-true l.i z.extra.0 (sym c.has-in-loop-pair.ensures ∙ w.if-has.true))
         | else-has w ↦ omega (arith, ap (λ (z : SeqSb). z.0) w.sbx-is, c.plus-sbx.ensures, times_next z.tile.0 l.i, ltb-false l.i z.extra.0 (sym c.has-in-loop-pair.ensures ∙ w.if-has.false))
       ],
       omega arith,

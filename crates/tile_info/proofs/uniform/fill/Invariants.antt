@@ -5,6 +5,7 @@ use lib.ListN.{length, drop}
 use Rattle.tile_layout.specs.Layout.{tabulate, padded}
 use Rattle.superblocks.specs.Counts.{multiplier_of}
 use Rattle.tile_info.proofs.uniform.fill.Given as goal
+
 abbrev pub invariant-loop-pair : goal.invariant-loop-pair
 invariant-loop-pair l =
     (l.sbx.0 ≡ l.split.tile.0 * l.i + min l.i l.split.extra.0)

@@ -35,24 +35,30 @@ pub returns-then-ones-left : goal.returns-then-ones-left
 returns-then-ones-left c =
     let a = c.args in
     let e = c.requires in
-    record { reads = λ s p e.
+    record {
+      reads = λ s p e.
           let w = looked s p a.word e in
           let n = count 1 (from s (position s p) a.word w a.used) in
           let z = by_word s p a.word a.used a.least a.most w (omega arith) in
           let k : min n (a.most - a.least) ≡ n = omega arith in
           let m : a.used + min (n + 1) (a.most - a.least) ≡ a.used + n + 1 = omega arith in
-          rw z (omega (arith, k), ap (λ (u : ℕ). (read_bits s p u).next) (sym m)); low = (omega arith, omega arith) }
+          rw z (omega (arith, k), ap (λ (u : ℕ). (read_bits s p u).next) (sym m));
+      low = (omega arith, omega arith);
+    }
 
 pub returns : goal.returns
 returns c =
     let a = c.args in
-    record { reads = λ s p e.
+    record {
+      reads = λ s p e.
           let w = looked s p a.word e in
           let n = count 1 (from s (position s p) a.word w a.used) in
           let z = by_word s p a.word a.used a.least a.most w (omega arith) in
           let k : a.least + min n (a.most - a.least) ≡ a.most = omega arith in
           let m : a.used + min (n + 1) (a.most - a.least) ≡ a.used + (a.most - a.least) = omega arith in
-          rw z (sym k, ap (λ (u : ℕ). (read_bits s p u).next) (sym m)); low = (omega arith, omega arith) }
+          rw z (sym k, ap (λ (u : ℕ). (read_bits s p u).next) (sym m));
+      low = (omega arith, omega arith);
+    }
 
 pub overflow_cast-result : goal.overflow_cast-result
 overflow_cast-result c = omega arith
