@@ -5,6 +5,7 @@ use Rattle.drawing.specs.View.{column_of}
 use Rattle.rectangles.specs.Rectangles.{each}
 use Rattle.text.specs.Text.{Put}
 use Rattle.drawing.proofs.put_column_starts.Given as goal
+
 abbrev pub invariant-loop-i : goal.invariant-loop-i
 invariant-loop-i l =
     (l.i ≤ l.cols) × Put (260 * l.i) l.initial.out l.at (each l.i λ k. above_text l.v.unit (column_of l.v k (take 4 (drop (4 * k) l.xs))) (get_or l.starts k 0)) l.out l.next

@@ -5,6 +5,7 @@ use Rattle.drawing.specs.Template.{marked}
 use Rattle.text.proofs.Filled.{marks}
 use Rattle.text.specs.Text.{Put}
 use Rattle.drawing.proofs.put_marked.Given as goal
+
 abbrev pub invariant-loop-i : goal.invariant-loop-i
 invariant-loop-i l =
     ((l.i ≤ length l.template) × (l.k ≤ l.i)) × (l.k ≡ marks (take l.i l.template)) × Put (l.i + 19 * min l.k (length l.xs)) l.initial.out l.at (marked (take l.i l.template) l.xs) l.out l.next

@@ -4,6 +4,7 @@ use Rattle.drawing.specs.View.{rect_of}
 use Rattle.rectangles.specs.Rectangles.{each}
 use Rattle.text.specs.Text.{Put}
 use Rattle.drawing.proofs.put_row.Given as goal
+
 abbrev pub invariant-loop-i : goal.invariant-loop-i
 invariant-loop-i l = (l.i ≤ l.cols) × Put (480 * l.i) l.initial.out l.at (each l.i λ k. tile_text l.v k l.j (l.j * l.cols + k) (rect_of l.xs l.cols k l.j)) l.out l.next
 

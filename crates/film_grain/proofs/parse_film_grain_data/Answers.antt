@@ -43,7 +43,7 @@ returns-then-lists-one_list_empty c =
     let one = (goal.at.returns-then-lists-one_list_empty c).After-one_list_empty in
     let a = c.args in
     let w = promised a.s.now a.p a.layout
-        (sym (to_lists one ∙ taken _ _ _ (sym (asked one) ∙ c.if-lists-one_list_empty.true) ∙ ap (λ (x : ListsEnd). refused_grain x.next) (sym c.point_lists-lists.ensures.value) ∙ sym c.refuse_grain.ensures)) in
+    (sym (to_lists one ∙ taken _ _ _ (sym (asked one) ∙ c.if-lists-one_list_empty.true) ∙ ap (λ (x : ListsEnd). refused_grain x.next) (sym c.point_lists-lists.ensures.value) ∙ sym c.refuse_grain.ensures)) in
     record { value = w.0; grain_lists = w.1 }
 
 pub returns-then-next : goal.returns-then-next
@@ -52,10 +52,10 @@ returns-then-next c =
     let e = c.point_lists-lists.ensures.value in
     let a = c.args in
     let w = promised a.s.now a.p a.layout
-        (sym (to_lists one
-        ∙ left _ _ _ (sym (asked one) ∙ c.if-lists-one_list_empty.false)
-        ∙ c.read_fields-fields.ensures (lists one) (sym (ap (λ (x : ListsEnd). x.num_points) e)) (sym (ap (λ (x : ListsEnd). x.next) e))
-        ∙ taken _ _ _ c.if-next.true ∙ sym c.refuse_grain-then-next.ensures)) in
+    (sym (to_lists one
+    ∙ left _ _ _ (sym (asked one) ∙ c.if-lists-one_list_empty.false)
+    ∙ c.read_fields-fields.ensures (lists one) (sym (ap (λ (x : ListsEnd). x.num_points) e)) (sym (ap (λ (x : ListsEnd). x.next) e))
+    ∙ taken _ _ _ c.if-next.true ∙ sym c.refuse_grain-then-next.ensures)) in
     record { value = w.0; grain_lists = w.1 }
 
 pub returns : goal.returns
@@ -65,8 +65,8 @@ returns c =
     let a = c.args in
     let points = c.point_lists-lists.ensures.v_list_after (neither c.point_lists-lists.result.refused c.one_list_empty.result c.if-lists-one_list_empty.false).0 in
     let w = promised a.s.now a.p a.layout
-        (sym (to_lists one
-        ∙ left _ _ _ (sym (asked one) ∙ c.if-lists-one_list_empty.false)
-        ∙ c.read_fields-fields.ensures (lists one) (sym (ap (λ (x : ListsEnd). x.num_points) e)) (sym (ap (λ (x : ListsEnd). x.next) e))
-        ∙ left _ _ _ c.if-next.false ∙ rw (← points))) in
+    (sym (to_lists one
+    ∙ left _ _ _ (sym (asked one) ∙ c.if-lists-one_list_empty.false)
+    ∙ c.read_fields-fields.ensures (lists one) (sym (ap (λ (x : ListsEnd). x.num_points) e)) (sym (ap (λ (x : ListsEnd). x.next) e))
+    ∙ left _ _ _ c.if-next.false ∙ rw (← points))) in
     record { value = w.0; grain_lists = w.1 }

@@ -51,7 +51,7 @@ loop-row-preserved c =
     let down = c.span_of-down.ensures in (
       omega arith,
       store_more (tiles a.t side a.w a.h) (4 * a.t.cols) (tiles_long a.t side a.w a.h) c.loop-row.row 0 _ a.out.now c.loop-row.out _ (omega arith) c.loop-row.invariant.1
-      (rw (down.0, down.1) at c.put_row.ensures),
+          (rw (down.0, down.1) at c.put_row.ensures),
     )
 
 pub returns : goal.returns

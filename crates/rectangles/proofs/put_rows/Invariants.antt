@@ -4,6 +4,7 @@ use Prim.Native.Nat.{ℕ, ◌-◌, ◌≤◌}
 use lib.Seq.{sets}
 use Rattle.rectangles.specs.Rectangles.{edge, reach, each}
 use Rattle.rectangles.proofs.put_rows.Given as goal
+
 -- the tiles of a row, by the starts and a superblock's side
 abbrev pub across : List ℕ → List ℕ → ℕ → ℕ → ℕ → ℕ → ℕ → List ℕ
 across col-start-sb row-start-sb side w h cols row =

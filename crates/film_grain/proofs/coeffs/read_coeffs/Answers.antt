@@ -92,11 +92,11 @@ bounds-coeffs-i c = omega (arith, c.loop-i.invariant.1, c.requires.0)
 
 pub loop-i-preserved : goal.loop-i-preserved
 unfolding coeff
-loop-i-preserved c =(
-      omega arith,
-      simp length-set c.loop-i.invariant.1,
-      rw (back (goal.at.loop-i-preserved c).After-bits_less-c, to_z-of_z w8 _ (fits (goal.at.loop-i-preserved c).After-bits_less-c)) (sym (turns_more _ _ _ ∙ ap (coeff _ _ _) (sym c.loop-i.invariant.2) ∙ through _ _ (read (goal.at.loop-i-preserved c).After-bits_less-c))),
-    )
+loop-i-preserved c = (
+  omega arith,
+  simp length-set c.loop-i.invariant.1,
+  rw (back (goal.at.loop-i-preserved c).After-bits_less-c, to_z-of_z w8 _ (fits (goal.at.loop-i-preserved c).After-bits_less-c)) (sym (turns_more _ _ _ ∙ ap (coeff _ _ _) (sym c.loop-i.invariant.2) ∙ through _ _ (read (goal.at.loop-i-preserved c).After-bits_less-c))),
+)
 
 pub shape_of-coeffs : goal.shape_of-coeffs
 shape_of-coeffs c = c.loop-i.invariant.1 ∙ sym (rw c.requires.3 refl)

@@ -7,6 +7,7 @@ use Rattle.getbits.specs.Chain.{turns}
 use Rattle.getbits.specs.declared.Place.{Place}
 use Rattle.film_grain.specs.Points.{PointsRead, no_points, point}
 use Rattle.film_grain.proofs.points.read_points.Given as goal
+
 -- the points so far
 abbrev pub seen : ℕ → ℕ → List ℕ → Place → PointsRead
 seen n base points next = record { refused = false; num_points = n; base = base; list = record { points = points }; next = next }

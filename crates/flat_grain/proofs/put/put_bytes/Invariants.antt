@@ -4,6 +4,7 @@ use lib.IntN.{pos}
 use lib.ListN.{length}
 use Rattle.flat.proofs.Rows.{Copied}
 use Rattle.flat_grain.proofs.put.put_bytes.Given as goal
+
 abbrev pub invariant-loop-i : goal.invariant-loop-i
 invariant-loop-i l = Copied l.initial.out l.at (map pos l.xs) l.out l.i
 

@@ -2,6 +2,7 @@ use Prim.Native.Nat.{◌-◌}
 use lib.ListN.{length}
 use Rattle.flat.proofs.Rows.{Copied}
 use Rattle.flat_grain.proofs.put.put_coeffs.Given as goal
+
 abbrev pub invariant-loop-i : goal.invariant-loop-i
 invariant-loop-i l = Copied l.initial.out l.at l.xs l.out l.i
 
