@@ -1,4 +1,5 @@
 use mathlib.Core.Bool.{true}
+use mathlib.Core.List.{List}
 use mathlib.Core.Path.{◌≡◌, ◌∙◌, sym, ap}
 use Prim.Native.Nat.{ℕ, ◌+◌, ◌-◌, ◌*◌, ◌^◌, ◌≤◌, ◌<◌}
 use native.Mathlib.Omega.{arith}
@@ -13,13 +14,14 @@ use Rattle.codes.proofs.Args.{range_known}
 use Rattle.codes.specs.Codes.{get_bits_subexp_u, subexp_range, get_bits_subexp}
 use Rattle.getbits.proofs.Chain.{through, taken, left}
 use Rattle.getbits.specs.declared.Number.{Number}
+use Rattle.getbits.specs.declared.Place.{Place}
 use Rattle.getbits.proofs.Widths.{back}
 use Rattle.codes.proofs.get_bits_subexp.Goals as goal
 
-answer_lt : (u : goal.After-next-1) → u.get_bits_subexp_u-r.result.value < 2 ^ 31
-answer_lt u =
-    let a = u.args in
-    omega (arith, subexp_u_lt a.s.now a.p (nat_abs u.shifted-x.result) (2 * a.n - 1) (pos 3) (omega (arith, (known u).0)), ap (λ (x : Number). x.value) (called u), (known u).1)
+-- a number that is read below 2 * n - 1
+answer_lt : (s : List ℕ) (p : Place) (x : ℕ) (n : ℕ) (r : Number) → r ≡ get_bits_subexp_u s p x (2 * n - 1) (pos 3) → 1 ≤ n → n ≤ 2 ^ 30 → r.value < 2 ^ 31
+answer_lt s p x n r e some low =
+    omega (arith, subexp_u_lt s p x (2 * n - 1) (pos 3) (omega arith), ap (λ (z : Number). z.value) e)
 
 pub overflow_cast-x : goal.overflow_cast-x
 overflow_cast-x c =
@@ -48,7 +50,7 @@ difference-requires c =
     c.get_bits_subexp_u-r.ensures
     ∙ ap (λ (z : ℤ). get_bits_subexp_u a.s.now a.p (nat_abs z) (a.n + c.less_one-off.result) (pos 3)) (same)
     ∙ ap (λ (x : ℕ). get_bits_subexp_u a.s.now a.p (nat_abs c.shifted-x.result) x (pos 3)) e in
-    (omega (arith, answer_lt c), omega (arith, (known).1, c.less_one-off.ensures))
+    (answer_lt _ _ _ _ _ called known.0 known.1, omega (arith, (known).1, c.less_one-off.ensures))
 
 pub returns-then-subexp_range : goal.returns-then-subexp_range
 unfolding get_bits_subexp

@@ -11,11 +11,12 @@ use Rattle.getbits.proofs.Chain.{through, taken, left}
 use Rattle.getbits.specs.declared.Number.{Number}
 use Rattle.getbits.specs.Chain.{pick, then}
 use Rattle.codes.proofs.get_ref_uniform.Goals as goal
+use Rattle.codes.proofs.get_ref_uniform.Goals.{After-get_uniform-r}
 
-abbrev held : goal.After-get_uniform-r → ℕ
-held u = u.before.before.before.before.before.umin.result
+abbrev held : After-get_uniform-r → ℕ
+held u = u.umin-d.result
 
-below : (u : goal.After-struct_known-3-1) → u.get_uniform-r.result.value < 2 ^ 31
+below : (u : After-get_uniform-r) → u.get_uniform-r.result.value < 2 ^ 31
 below u =
     let a = u.args in
     let b = u.get_bit-b.result in
@@ -51,12 +52,12 @@ returns-then-r-d c =
     ∙ left _ _ _ (lt-leb (2 ^ 31) a.max (omega arith))
     ∙ through _ _ c.umin-d.ensures
     ∙ through _ _ c.get_bit-b.ensures in
-    let other : (let a = c.args in let r = c.get_uniform-r.result in get_ref_uniform a.s.now a.p a.max a.def ≡ record { value = pick (ltb r.value (held c)) r.value (r.value + 1); next = r.next }) = opened ∙ left _ _ _ (ne_eqb c.get_bit-b.result.value 0 c.if-b-eq0.false) ∙ through _ _ c.get_uniform-r.ensures in
-    sym (other ∙ ap (λ (x : ℕ). record { value = x; next = c.get_uniform-r.result.next }) (taken _ _ _ (lt-ltb c.get_uniform-r.result.value (held c) c.if-r-d.true)))
+    let other : (let a = c.args in let r = c.get_uniform-r.result in get_ref_uniform a.s.now a.p a.max a.def ≡ record { value = pick (ltb r.value (held (goal.at.returns-then-r-d c).After-get_uniform-r)) r.value (r.value + 1); next = r.next }) = opened ∙ left _ _ _ (ne_eqb c.get_bit-b.result.value 0 c.if-b-eq0.false) ∙ through _ _ c.get_uniform-r.ensures in
+    sym (other ∙ ap (λ (x : ℕ). record { value = x; next = c.get_uniform-r.result.next }) (taken _ _ _ (lt-ltb c.get_uniform-r.result.value (held (goal.at.returns-then-r-d c).After-get_uniform-r) c.if-r-d.true)))
 
 pub overflow_add-result : goal.overflow_add-result
 overflow_add-result c =
-    omega (arith, below c)
+    omega (arith, below (goal.at.overflow_add-result c).After-get_uniform-r)
 
 pub returns : goal.returns
 unfolding get_ref_uniform
@@ -66,5 +67,5 @@ returns c =
     ∙ left _ _ _ (lt-leb (2 ^ 31) a.max (omega arith))
     ∙ through _ _ c.umin-d.ensures
     ∙ through _ _ c.get_bit-b.ensures in
-    let other : (let a = c.args in let r = c.get_uniform-r.result in get_ref_uniform a.s.now a.p a.max a.def ≡ record { value = pick (ltb r.value (held c)) r.value (r.value + 1); next = r.next }) = opened ∙ left _ _ _ (ne_eqb c.get_bit-b.result.value 0 c.if-b-eq0.false) ∙ through _ _ c.get_uniform-r.ensures in
-    sym (other ∙ ap (λ (x : ℕ). record { value = x; next = c.get_uniform-r.result.next }) (left _ _ _ (le-ltb c.get_uniform-r.result.value (held c) c.if-r-d.false)))
+    let other : (let a = c.args in let r = c.get_uniform-r.result in get_ref_uniform a.s.now a.p a.max a.def ≡ record { value = pick (ltb r.value (held (goal.at.returns c).After-get_uniform-r)) r.value (r.value + 1); next = r.next }) = opened ∙ left _ _ _ (ne_eqb c.get_bit-b.result.value 0 c.if-b-eq0.false) ∙ through _ _ c.get_uniform-r.ensures in
+    sym (other ∙ ap (λ (x : ℕ). record { value = x; next = c.get_uniform-r.result.next }) (left _ _ _ (le-ltb c.get_uniform-r.result.value (held (goal.at.returns c).After-get_uniform-r) c.if-r-d.false)))

@@ -13,6 +13,7 @@ use Rattle.getbits.specs.declared.Number.{Number}
 use Rattle.getbits.specs.declared.Place.{Place}
 use Rattle.getbits.specs.Bits.{get_bits}
 use Rattle.codes.proofs.groups.Goals as goal
+use Rattle.codes.proofs.groups.Goals.{After-read_bits-b}
 
 module _ (t : ℕ) (s : List ℕ) (q : Place) (b : Number) (e : b ≡ get_bits s q (pos 8)) where
   uleb_last : b.value < 128 → uleb_from (suc t) s q ≡ b
@@ -44,72 +45,69 @@ module _ (w t : ℕ) (e : w * 2 ^ (7 * suc t) ≡ 2 ^ 56) where
   room = let h = mul-le-mul_left (w * 128) (pow_pos (7 * t)) in omega (arith, heavier, h)
 
 -- a byte is read, and `left` bytes could still be
-module _ (k : goal.After-struct_known-1 invariant-loop decreases-loop) where
-  abbrev loop : goal.At-loop-left invariant-loop decreases-loop
-  loop = k
-
+module _ (k : After-read_bits-b) where
   abbrev s : List ℕ
-  s = loop.before.before.args.s.now
+  s = k.args.s.now
 
   abbrev byte : Number
   byte = k.read_bits-b.result
 
-  some : loop.loop.left ≡ suc (loop.loop.left - 1)
+  some : k.loop-left.left ≡ suc (k.loop-left.left - 1)
   some = omega (arith, k)
 
-  weighs : loop.loop.weight * 2 ^ (7 * suc (loop.loop.left - 1)) ≡ 2 ^ 56
-  weighs = rw (← some) loop.loop.inv.1
+  weighs : k.loop-left.weight * 2 ^ (7 * suc (k.loop-left.left - 1)) ≡ 2 ^ 56
+  weighs = rw (← some) k.loop-left.invariant.1
 
   -- seven bits are less than the next weight
-  under : (x : ℕ) → x < 128 → loop.loop.val + x * loop.loop.weight < loop.loop.weight * 128
-  under x h = omega (arith, mul-le-mul_right {m = x} {n = 127} loop.loop.weight (omega arith), loop.loop.inv.0)
+  under : (x : ℕ) → x < 128 → k.loop-left.val + x * k.loop-left.weight < k.loop-left.weight * 128
+  under x h = omega (arith, mul-le-mul_right {m = x} {n = 127} k.loop-left.weight (omega arith), k.loop-left.invariant.0)
 
   byte_small : byte.value < 256
-  byte_small = byte_lt 0 s loop.loop.q byte k.read_bits-b.ensures
+  byte_small = byte_lt 0 s k.loop-left.q byte k.read_bits-b.ensures
 
-  fits : loop.loop.weight * 128 ≤ 2 ^ 56
-  fits = room loop.loop.weight (loop.loop.left - 1) weighs
+  fits : k.loop-left.weight * 128 ≤ 2 ^ 56
+  fits = room k.loop-left.weight (k.loop-left.left - 1) weighs
 
 pub loop-left-init : goal.loop-left-init
 loop-left-init c = (omega arith, refl, omega arith, refl)
 
 pub overflow_mul-result : goal.overflow_mul-result
-overflow_mul-result c = omega (arith, under c (byte c).value (omega arith), fits c)
+overflow_mul-result c = omega (arith, under (goal.at.overflow_mul-result c).After-read_bits-b (byte (goal.at.overflow_mul-result c).After-read_bits-b).value (omega arith), fits (goal.at.overflow_mul-result c).After-read_bits-b)
 
 pub overflow_add-result : goal.overflow_add-result
-overflow_add-result c = omega (arith, under c (byte c).value (omega arith), fits c)
+overflow_add-result c = omega (arith, under (goal.at.overflow_add-result c).After-read_bits-b (byte (goal.at.overflow_add-result c).After-read_bits-b).value (omega arith), fits (goal.at.overflow_add-result c).After-read_bits-b)
 
 pub returns-then-v-lt128 : goal.returns-then-v-lt128
 returns-then-v-lt128 c =
-    let l = (loop c).loop in
-    let e : uleb_from l.left (s c) l.q ≡ byte c =
-    ap (λ (n : ℕ). uleb_from n (s c) l.q) (some c) ∙ uleb_last (l.left - 1) (s c) l.q (byte c) c.read_bits-b.ensures c.if-v-lt128.true in (
-      ap (λ (x : ℕ). l.val + x) (mul_comm (byte c).value l.weight ∙ ap (λ (r : Number). l.weight * r.value) (sym e)) ∙ l.inv.2,
-      ap (λ (r : Number). r.next) (sym e) ∙ l.inv.3,
+    let l = c.loop-left in
+    let e : uleb_from l.left (s (goal.at.returns-then-v-lt128 c).After-read_bits-b) l.q ≡ byte (goal.at.returns-then-v-lt128 c).After-read_bits-b =
+    ap (λ (n : ℕ). uleb_from n (s (goal.at.returns-then-v-lt128 c).After-read_bits-b) l.q) (some (goal.at.returns-then-v-lt128 c).After-read_bits-b) ∙ uleb_last (l.left - 1) (s (goal.at.returns-then-v-lt128 c).After-read_bits-b) l.q (byte (goal.at.returns-then-v-lt128 c).After-read_bits-b) c.read_bits-b.ensures c.if-v-lt128.true in (
+      ap (λ (x : ℕ). l.val + x) (mul_comm (byte (goal.at.returns-then-v-lt128 c).After-read_bits-b).value l.weight ∙ ap (λ (r : Number). l.weight * r.value) (sym e)) ∙ l.invariant.2,
+      ap (λ (r : Number). r.next) (sym e) ∙ l.invariant.3,
     )
 
 pub overflow_mul-val : goal.overflow_mul-val
-overflow_mul-val c = omega (arith, under c ((byte c).value - 128) (omega (arith, byte_small c)), fits c)
+overflow_mul-val c = omega (arith, under (goal.at.overflow_mul-val c).After-read_bits-b ((byte (goal.at.overflow_mul-val c).After-read_bits-b).value - 128) (omega (arith, byte_small (goal.at.overflow_mul-val c).After-read_bits-b)), fits (goal.at.overflow_mul-val c).After-read_bits-b)
 
 pub overflow_add-val : goal.overflow_add-val
-overflow_add-val c = omega (arith, under c ((byte c).value - 128) (omega (arith, byte_small c)), fits c)
+overflow_add-val c = omega (arith, under (goal.at.overflow_add-val c).After-read_bits-b ((byte (goal.at.overflow_add-val c).After-read_bits-b).value - 128) (omega (arith, byte_small (goal.at.overflow_add-val c).After-read_bits-b)), fits (goal.at.overflow_add-val c).After-read_bits-b)
 
 pub overflow_mul-weight : goal.overflow_mul-weight
-overflow_mul-weight c = omega (arith, fits c)
+overflow_mul-weight c = omega (arith, fits (goal.at.overflow_mul-weight c).After-read_bits-b)
 
 pub loop-left-smaller : goal.loop-left-smaller
 loop-left-smaller c = omega arith
 
 pub loop-left-preserved : goal.loop-left-preserved
 loop-left-preserved c =
-    let l = (loop c).loop in
-    let rest : Number = uleb_from (l.left - 1) (s c) (byte c).next in
-    let e : uleb_from l.left (s c) l.q ≡ record { value = (byte c).value - 128 + 128 * rest.value; next = rest.next } =
-    ap (λ (n : ℕ). uleb_from n (s c) l.q) (some c) ∙ uleb_more (l.left - 1) (s c) l.q (byte c) c.read_bits-b.ensures c.if-v-lt128.false in (
-      under c ((byte c).value - 128) (omega (arith, byte_small c)),
-      heavier l.weight (l.left - 1) (weighs c),
-      spread l.val ((byte c).value - 128) l.weight rest.value ∙ ap (λ (r : Number). l.val + l.weight * r.value) (sym e) ∙ l.inv.2,
-      ap (λ (r : Number). r.next) (sym e) ∙ l.inv.3,
+    let l = c.loop-left in
+    let rest : Number = uleb_from (l.left - 1) (s (goal.at.loop-left-preserved c).After-read_bits-b) (byte (goal.at.loop-left-preserved c).After-read_bits-b).next in
+    let e : uleb_from l.left (s (goal.at.loop-left-preserved c).After-read_bits-b) l.q ≡ record { value = (byte (goal.at.loop-left-preserved c).After-read_bits-b).value - 128 + 128 * rest.value; next = rest.next } =
+    ap (λ (n : ℕ). uleb_from n (s (goal.at.loop-left-preserved c).After-read_bits-b) l.q) (some (goal.at.loop-left-preserved c).After-read_bits-b) ∙ uleb_more (l.left - 1) (s (goal.at.loop-left-preserved c).After-read_bits-b) l.q (byte (goal.at.loop-left-preserved c).After-read_bits-b) c.read_bits-b.ensures c.if-v-lt128.false in (
+      under (goal.at.loop-left-preserved c).After-read_bits-b ((byte (goal.at.loop-left-preserved c).After-read_bits-b).value - 128) (omega (arith, byte_small (goal.at.loop-left-preserved c).After-read_bits-b)),
+      heavier l.weight (l.left - 1) (weighs (goal.at.loop-left-preserved c).After-read_bits-b),
+      spread l.val ((byte (goal.at.loop-left-preserved c).After-read_bits-b).value - 128) l.weight rest.value ∙ ap (λ (r : Number). l.val + l.weight * r.value) (sym e) ∙ l.invariant.2,
+      ap (λ (r : Number). r.next) (sym e) ∙ l.invariant.3,
     )
 
 pub returns : goal.returns

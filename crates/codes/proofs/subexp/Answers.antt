@@ -15,42 +15,40 @@ use Rattle.getbits.specs.declared.Place.{Place}
 use Rattle.getbits.specs.Bits.{read_bits, get_bit, get_bits}
 use Rattle.getbits.specs.Chain.{pick, then}
 use Rattle.codes.proofs.subexp.Goals as goal
+use Rattle.codes.proofs.subexp.Goals.{After-power-a}
 
 -- step i, with its number of bits at hand
-module _ (k : goal.After-power-a invariant-loop decreases-loop) where
-  abbrev loop : goal.At-loop-v invariant-loop decreases-loop
-  loop = k
-
+module _ (k : After-power-a) where
   abbrev s : List ℕ
-  s = loop.before.before.args.s.now
+  s = k.args.s.now
 
   abbrev n : ℕ
-  n = loop.before.before.args.n
+  n = k.args.n
 
   abbrev q : Place
-  q = loop.loop.q
+  q = k.loop-v.q
 
   abbrev v : ℕ
-  v = loop.loop.v
+  v = k.loop-v.v
 
   abbrev b : ℕ
   b = k.step_bits-b.result
 
   twos : k.power-a.result ≡ 2 ^ b
-  twos = power_below (omega (arith, k.step_bits-b.ensures, loop)) k.power-a.ensures.0
+  twos = power_below (omega (arith, k.step_bits-b.ensures)) k.power-a.ensures.0
 
   abbrev whole : Number
-  whole = subexp_from 33 s loop.before.before.args.p n loop.before.before.args.k 0 0
+  whole = subexp_from 33 s k.args.p n k.args.k 0 0
 
   abbrev onward : Place → Number
-  onward p = subexp_from (32 - loop.loop.i) s p n loop.before.before.args.k (loop.loop.i + 1) (v + 2 ^ b)
+  onward p = subexp_from (32 - k.loop-v.i) s p n k.args.k (k.loop-v.i + 1) (v + 2 ^ b)
 
   opened : whole
       ≡ pick (leb n (v + 3 * 2 ^ b)) (plus v (get_uniform s q (n - v))) (then (get_bit s q) λ g. pick (eqb g.value 0) (plus v (read_bits s g.next b)) (onward g.next))
   unfolding subexp_from
   opened =
-      let e : 33 - loop.loop.i ≡ suc (32 - loop.loop.i) = omega (arith, loop) in
-      sym loop.loop.inv.3 ∙ ap (λ (x : ℕ). subexp_from x s q n loop.before.before.args.k loop.loop.i v) e ∙ through _ _ k.step_bits-b.ensures
+      let e : 33 - k.loop-v.i ≡ suc (32 - k.loop-v.i) = omega (arith) in
+      sym k.loop-v.invariant.3 ∙ ap (λ (x : ℕ). subexp_from x s q n k.args.k k.loop-v.i v) e ∙ through _ _ k.step_bits-b.ensures
 
   -- the rest of n as uniform
   rest : (r : Number) → r ≡ get_uniform s q (n - v) → n ≤ v + 3 * k.power-a.result
@@ -60,8 +58,7 @@ module _ (k : goal.After-power-a invariant-loop decreases-loop) where
   -- a number that is the whole reading's is below n
   within : (r : Number) → plus v r ≡ whole → v + r.value < 2 ^ 31
   within r e =
-      let a = loop.before.before in
-      omega (arith, subexp_lt 33 s a.args.p n a.args.k 0 0 a.pre.1, ap (λ (x : Number). x.value) e, a.pre.2)
+      omega (arith, subexp_lt 33 s k.args.p n k.args.k 0 0 k.requires.1, ap (λ (x : Number). x.value) e, k.requires.2)
 
   module _ (g : Number) (e : g ≡ get_bit s q) (h : v + 3 * k.power-a.result < n) where
     behind : whole ≡ pick (eqb g.value 0) (plus v (read_bits s g.next b)) (onward g.next)
@@ -70,48 +67,48 @@ module _ (k : goal.After-power-a invariant-loop decreases-loop) where
     -- the number is in this step
     here : g.value ≡ 0 → (r : Number) → r ≡ get_bits s g.next (pos b)
         → plus v r ≡ whole
-    here z r f = ap (plus v) (as_read s g.next b (omega (arith, k.step_bits-b.ensures, loop)) f) ∙ sym (behind ∙ taken _ _ _ (eq-eqb g.value 0 z))
+    here z r f = ap (plus v) (as_read s g.next b (omega (arith, k.step_bits-b.ensures)) f) ∙ sym (behind ∙ taken _ _ _ (eq-eqb g.value 0 z))
 
     -- it is in a later one
-    on : (g.value ≡ 0 → ⊥) → subexp_from (33 - (loop.loop.i + 1)) s g.next n loop.before.before.args.k (loop.loop.i + 1) (v + k.power-a.result)
+    on : (g.value ≡ 0 → ⊥) → subexp_from (33 - (k.loop-v.i + 1)) s g.next n k.args.k (k.loop-v.i + 1) (v + k.power-a.result)
         ≡ whole
     on z =
-        let f : 33 - (loop.loop.i + 1) ≡ 32 - loop.loop.i = omega arith in
-        ap (λ (x : ℕ). subexp_from x s g.next n loop.before.before.args.k (loop.loop.i + 1) (v + k.power-a.result)) f
-        ∙ ap (λ (x : ℕ). subexp_from (32 - loop.loop.i) s g.next n loop.before.before.args.k (loop.loop.i + 1) (v + x)) twos
+        let f : 33 - (k.loop-v.i + 1) ≡ 32 - k.loop-v.i = omega arith in
+        ap (λ (x : ℕ). subexp_from x s g.next n k.args.k (k.loop-v.i + 1) (v + k.power-a.result)) f
+        ∙ ap (λ (x : ℕ). subexp_from (32 - k.loop-v.i) s g.next n k.args.k (k.loop-v.i + 1) (v + x)) twos
         ∙ sym (behind ∙ left _ _ _ (ne_eqb g.value 0 z))
 
     -- the next step is within the width
     more : b < 30
-    more = pow_lt_only b 30 (omega (arith, twos, loop.before.before.pre.2))
+    more = pow_lt_only b 30 (omega (arith, twos, k.requires.2))
 
 pub loop-v-init : goal.loop-v-init
 loop-v-init c = (search rules, search rules, search rules, refl)
 
 pub overflow_add-result : goal.overflow_add-result
 overflow_add-result c =
-    omega (arith, within c c.get_uniform-r.result (rest c c.get_uniform-r.result c.get_uniform-r.ensures c.if-n-v.true))
+    omega (arith, within (goal.at.overflow_add-result c).After-power-a c.get_uniform-r.result (rest (goal.at.overflow_add-result c).After-power-a c.get_uniform-r.result c.get_uniform-r.ensures c.if-n-v.true))
 
 pub returns-then-n-v : goal.returns-then-n-v
 returns-then-n-v c =
-    rest c c.get_uniform-r.result c.get_uniform-r.ensures c.if-n-v.true
+    rest (goal.at.returns-then-n-v c).After-power-a c.get_uniform-r.result c.get_uniform-r.ensures c.if-n-v.true
 
 pub overflow_add-result-then-g-eq0 : goal.overflow_add-result-then-g-eq0
 overflow_add-result-then-g-eq0 c =
-    omega (arith, within c c.read_bits-r.result (here c c.get_bit-g.result c.get_bit-g.ensures c.if-n-v.false c.if-g-eq0.true c.read_bits-r.result c.read_bits-r.ensures))
+    omega (arith, within (goal.at.overflow_add-result-then-g-eq0 c).After-power-a c.read_bits-r.result (here (goal.at.overflow_add-result-then-g-eq0 c).After-power-a c.get_bit-g.result c.get_bit-g.ensures c.if-n-v.false c.if-g-eq0.true c.read_bits-r.result c.read_bits-r.ensures))
 
 pub returns-then-g-eq0 : goal.returns-then-g-eq0
 returns-then-g-eq0 c =
-    here c c.get_bit-g.result c.get_bit-g.ensures c.if-n-v.false c.if-g-eq0.true c.read_bits-r.result c.read_bits-r.ensures
+    here (goal.at.returns-then-g-eq0 c).After-power-a c.get_bit-g.result c.get_bit-g.ensures c.if-n-v.false c.if-g-eq0.true c.read_bits-r.result c.read_bits-r.ensures
 
 pub loop-v-smaller : goal.loop-v-smaller
 loop-v-smaller c = omega arith
 
 pub loop-v-preserved : goal.loop-v-preserved
 loop-v-preserved c =
-    let small = more c c.get_bit-g.result c.get_bit-g.ensures c.if-n-v.false in (
+    let small = more (goal.at.loop-v-preserved c).After-power-a c.get_bit-g.result c.get_bit-g.ensures c.if-n-v.false in (
       omega (arith, small, c.step_bits-b.ensures),
       omega (arith, small, c.step_bits-b.ensures),
       omega arith,
-      on c c.get_bit-g.result c.get_bit-g.ensures c.if-n-v.false c.if-g-eq0.false,
+      on (goal.at.loop-v-preserved c).After-power-a c.get_bit-g.result c.get_bit-g.ensures c.if-n-v.false c.if-g-eq0.false,
     )

@@ -15,9 +15,10 @@ use Rattle.getbits.specs.Bits.{get_bit, get_bits}
 use Rattle.getbits.specs.Chain.{pick, then}
 use Rattle.codes.proofs.Callers.{length_at, uniform_more}
 use Rattle.codes.proofs.uniform_by_bits.Goals as goal
+use Rattle.codes.proofs.uniform_by_bits.Goals.{After-uniform_forms-f}
 
 -- behind the two first questions
-module _ (c : goal.After-uniform_forms-f) where
+module _ (c : After-uniform_forms-f) where
   abbrev s : List ℕ
   s = c.args.s.now
 
@@ -69,24 +70,24 @@ returns-then-max-ge2147483648 c =
 
 -- as the definition has it, since the bits may run out
 pub overflow_sub-l : goal.overflow_sub-l
-overflow_sub-l c = (forms c).0
+overflow_sub-l c = (forms (goal.at.overflow_sub-l c).After-uniform_forms-f).0
 
 pub returns-then-v-m : goal.returns-then-v-m
 returns-then-v-m c =
-    short c c.read_bits-r.result c.read_bits-r.ensures (search rules)
+    short (goal.at.returns-then-v-m c).After-uniform_forms-f c.read_bits-r.result c.read_bits-r.ensures (search rules)
 
 pub overflow_mul-result : goal.overflow_mul-result
 overflow_mul-result c =
-    let v = value_lt c c.read_bits-r.result c.read_bits-r.ensures in
+    let v = value_lt (goal.at.overflow_mul-result c).After-uniform_forms-f c.read_bits-r.result c.read_bits-r.ensures in
     omega (arith, v.0, v.1, c)
 
 pub overflow_add-result : goal.overflow_add-result
 overflow_add-result c =
     let b = c.get_bit-b in
-    let v = value_lt c c.read_bits-r.result c.read_bits-r.ensures in
-    omega (arith, v.0, v.1, bit_lt (s c) c.read_bits-r.result.next, ap (λ (x : Number). x.value) b.ensures, c)
+    let v = value_lt (goal.at.overflow_add-result c).After-uniform_forms-f c.read_bits-r.result c.read_bits-r.ensures in
+    omega (arith, v.0, v.1, bit_lt (s (goal.at.overflow_add-result c).After-uniform_forms-f) c.read_bits-r.result.next, ap (λ (x : Number). x.value) b.ensures, c)
 
 pub returns : goal.returns
 returns c =
     let b = c.get_bit-b in
-    long c c.read_bits-r.result c.read_bits-r.ensures b.result b.ensures (search rules)
+    long (goal.at.returns c).After-uniform_forms-f c.read_bits-r.result c.read_bits-r.ensures b.result b.ensures (search rules)

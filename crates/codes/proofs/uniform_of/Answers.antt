@@ -88,7 +88,8 @@ returns-then-w-f c =
     let a = c.args in
     let e = c.uniform_forms-f.ensures in
     let l = c.uniform_forms-f.result.bits in
-    record { reads = λ s p looked there some low.
+    record {
+      reads = λ s p looked there some low.
           ⊎_elim
           (λ none.
           let z : a.max ≡ 1 = omega arith in
@@ -101,7 +102,9 @@ returns-then-w-f c =
           (λ more.
           let r = short s p a.word a.max l c.uniform_forms-f.result.short e.0 e.1 looked there more low c.if-w-f.true in
           (r.0, ap (λ (n : ℕ). (read_bits s p n).next) c.less_one.ensures ∙ r.1))
-          (lt_or_le a.max 2); most = omega (arith, c.less_one.ensures, e.0) }
+          (lt_or_le a.max 2);
+      most = omega (arith, c.less_one.ensures, e.0);
+    }
 
 pub overflow_sub-result : goal.overflow_sub-result
 overflow_sub-result c = omega (arith, c.if-w-f.false)
@@ -111,7 +114,8 @@ returns c =
     let a = c.args in
     let e = c.uniform_forms-f.ensures in
     let l = c.uniform_forms-f.result.bits in
-    record { reads = λ s p looked there some low.
+    record {
+      reads = λ s p looked there some low.
           ⊎_elim
           (λ none.
           let z : a.max ≡ 1 = omega arith in
@@ -120,4 +124,6 @@ returns c =
           let v : a.word / 2 ^ (32 - l) < 2 = rw b (omega (arith, c.ranges.word.fits)) in
           absurd (omega (arith, m, v, c.if-w-f.false)))
           (λ more. long s p a.word a.max l c.uniform_forms-f.result.short e.0 e.1 looked there more low c.if-w-f.false)
-          (lt_or_le a.max 2); most = omega (arith, e.0) }
+          (lt_or_le a.max 2);
+      most = omega (arith, e.0);
+    }

@@ -8,8 +8,9 @@ use Rattle.getbits.proofs.Chain.{taken}
 use Rattle.seq_fields.specs.Fields.{bit_of}
 use Rattle.flat.proofs.Rows.{kept, stored}
 use Rattle.flat.proofs.put_layout_bytes.Goals as goal
+use Rattle.flat.proofs.put_layout_bytes.Goals.{Start}
 
-abbrev bytes : goal.Start → List ℕ
+abbrev bytes : Start → List ℕ
 bytes s =
     let a = s.args in
     bit_of a.uniform
@@ -24,12 +25,12 @@ bytes s =
     ∷ []
 
 pub returns-then-info-lt9 : goal.returns-then-info-lt9
-returns-then-info-lt9 c = kept 9 (bytes c) c.args.info.now c.if-info-lt9.true
+returns-then-info-lt9 c = kept 9 (bytes (goal.at.returns-then-info-lt9 c).Start) c.args.info.now c.if-info-lt9.true
 
 pub returns : goal.returns
 returns c =
     let info = c.args.info.now in
-    stored (bytes c) info 9 refl c.if-info-lt9.false ∙ sym (taken _ _ _ (le-leb 9 (length info) c.if-info-lt9.false))
+    stored (bytes (goal.at.returns c).Start) info 9 refl c.if-info-lt9.false ∙ sym (taken _ _ _ (le-leb 9 (length info) c.if-info-lt9.false))
 
 pub bounds-info-1 : goal.bounds-info-1
 bounds-info-1 c = simp length-set (omega arith)

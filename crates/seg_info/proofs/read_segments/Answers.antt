@@ -1,5 +1,5 @@
 use mathlib.Core.Path.{◌≡◌, refl, sym, ap, ◌∙◌}
-use Prim.Native.Nat.{ℕ, ◌+◌, ◌-◌, ◌≤◌}
+use Prim.Native.Nat.{ℕ, ◌+◌, ◌≤◌}
 use native.Mathlib.Omega.{arith}
 use borrow.Author.Tests.{leb-true}
 use lib.Dec.{leb}
@@ -11,9 +11,10 @@ use Rattle.seg_info.specs.Inner.{lent_read}
 use Rattle.seg_info.specs.Seg.{segment}
 use Rattle.seg_info.specs.declared.SegRead.{SegRead}
 use Rattle.seg_info.proofs.read_segments.Goals as goal
+use Rattle.seg_info.proofs.read_segments.Goals.{Then-i-n}
 
 -- both questions, where they hold
-two_left : (c : goal.Then-i-n invariant-loop decreases-loop) → let a = c.args in
+two_left : (c : Then-i-n) → let a = c.args in
     (c.loop-i.i + 2 ≤ a.n) × (position a.s.now c.loop-i.a.next + 56 ≤ bit_count a.s.now)
 two_left c =
     let a = c.args in
@@ -32,20 +33,20 @@ loop-i-init c = (omega arith, c.requires.1, refl)
 
 pub two_segments-a-requires : goal.two_segments-a-requires
 two_segments-a-requires c =
-    let t = two_left c in
+    let t = two_left (goal.at.two_segments-a-requires c).Then-i-n in
     (omega (arith, t.0, c.requires.0), c.loop-i.invariant.1, omega (arith, t.1))
 
 pub overflow_add-i-then-i-n : goal.overflow_add-i-then-i-n
-overflow_add-i-then-i-n c = omega (arith, (two_left c).0, c.requires.0)
+overflow_add-i-then-i-n c = omega (arith, (two_left (goal.at.overflow_add-i-then-i-n c).Then-i-n).0, c.requires.0)
 
 pub loop-i-smaller-then-i-n : goal.loop-i-smaller-then-i-n
-loop-i-smaller-then-i-n c = omega (arith, (two_left c).0)
+loop-i-smaller-then-i-n c = omega (arith, (two_left (goal.at.loop-i-smaller-then-i-n c).Then-i-n).0)
 
 pub loop-i-preserved-then-i-n : goal.loop-i-preserved-then-i-n
 loop-i-preserved-then-i-n c =
     let f = segment c.args.s.now in
     let i = c.loop-i.i in (
-      (two_left c).0,
+      (two_left (goal.at.loop-i-preserved-then-i-n c).Then-i-n).0,
       omega (arith, c.loop-i.invariant.1),
       c.two_segments-a.ensures ∙ ap (λ (x : SegRead). f (i + 1) (f i x)) c.loop-i.invariant.2 ∙ sym (two_more i f _),
     )

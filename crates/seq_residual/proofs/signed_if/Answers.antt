@@ -19,9 +19,9 @@ pub returns-then-sent : goal.returns-then-sent
 unfolding signed_if
 returns-then-sent c =
     let n = c.small_if-n in
-    let h : n.result.value < 2 ^ 7 = omega (arith, n.ensures.1) in
-    rw (to_z_pos w8 _ h, to_z-of_z w8 _ (fits _ n.ensures.1 _ refl))
-    (sym (through _ _ n.ensures.0 ∙ rw c.if-sent.true))
+    let h : n.result.value < 2 ^ 7 = omega (arith, n.ensures.below) in
+    rw (to_z_pos w8 _ h, to_z-of_z w8 _ (fits _ n.ensures.below _ refl))
+    (sym (through _ _ n.ensures.is ∙ rw c.if-sent.true))
 
 pub returns : goal.returns
 unfolding signed_if

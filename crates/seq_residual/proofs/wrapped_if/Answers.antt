@@ -7,8 +7,8 @@ pub returns-then-sent : goal.returns-then-sent
 unfolding wrapped_if
 returns-then-sent c =
     let n = c.small_if-n in
-    let e : c.wrapping_sub_u8.result ≡ (n.result.value + 256 - 23) % 256 = omega (arith, n.ensures.1) in
-    sym (through _ _ n.ensures.0 ∙ rw (c.if-sent.true, ← e))
+    let e : c.wrapping_sub_u8.result ≡ (n.result.value + 256 - 23) % 256 = omega (arith, n.ensures.below) in
+    sym (through _ _ n.ensures.is ∙ rw (c.if-sent.true, ← e))
 
 pub returns : goal.returns
 unfolding wrapped_if

@@ -1,6 +1,6 @@
 use mathlib.Core.Path.{◌≡◌, ap, ◌∙◌}
 use mathlib.Core.Bool.{true}
-use Prim.Native.Nat.{suc, ◌+◌, ◌^◌, ◌<◌}
+use Prim.Native.Nat.{suc, ◌+◌, ◌^◌}
 use native.Mathlib.Nat.{not-suc-le-zero, lt_of_lt_of_le, lt_of_le_of_lt}
 use native.Mathlib.Omega.{arith}
 use borrow.Author.Tests.{ltb-true, le-ltb}

@@ -2,6 +2,7 @@ use Prim.Native.Nat.{◌≤◌, ◌-◌}
 use lib.ListN.{length, take}
 use Rattle.text.specs.Text.{Put}
 use Rattle.text.proofs.put_word.Given as goal
+
 abbrev pub invariant-loop-i : goal.invariant-loop-i
 invariant-loop-i l = (l.i ≤ length l.word) × Put l.i l.initial.out l.at (take l.i l.word) l.out l.next
 

@@ -19,10 +19,6 @@ use Rattle.tile_info.specs.Into.{read_into}
 use Rattle.tile_info.proofs.Word.{flag_set, flag_unset}
 use Rattle.tile_info.proofs.read_layout.Goals as goal
 
--- the buffers lent
-abbrev given : goal.Start → Buffers
-given s = buffers s.args.info.now s.args.cols.now s.args.rows.now
-
 module _ (s : List ℕ) (p : Place) (old : TileInfo) (a : TileArgs) (d : in_domain a ≡ true) where
   -- by the flag
   uniform : (get_flag s p).value ≡ true → parse_tile_info s p old a ≡ uniform_layout s (get_flag s p).next a
@@ -45,23 +41,25 @@ behind s p b e = ap (λ (n : Number). n.next) e
 
 pub uniform_layout-next-requires : goal.uniform_layout-next-requires
 uniform_layout-next-requires c =
-    (c.requires.a_value, (c.frame_limits-k.ensures, (c.look_ahead-word.ensures, c.requires.rows_value)))
+    record { a_value = c.requires.a_value; known = c.frame_limits-k.ensures; word_value = c.look_ahead-word.ensures; rows_value = c.requires.rows_value }
 
 pub returns-then-word-ge2147483648 : goal.returns-then-word-ge2147483648
 returns-then-word-ge2147483648 c =
     let a = c.args in
+    let b = buffers a.info.now a.cols.now a.rows.now in
     let flag = flag_set a.s.now a.p c.look_ahead-word.result c.look_ahead-word.ensures c.if-word-ge2147483648.true in
-    accepted a.s.now _ a.a (given c) c.uniform_layout-next.ensures
-    ∙ ap (λ (z : TileRead). read_into z (given c)) (sym (uniform a.s.now a.p (layout_in (given c)) a.a c.requires.a_value flag))
+    accepted a.s.now _ a.a b c.uniform_layout-next.ensures
+    ∙ ap (λ (z : TileRead). read_into z b) (sym (uniform a.s.now a.p (layout_in b) a.a c.requires.a_value flag))
 
 pub nonuniform_layout-requires : goal.nonuniform_layout-requires
 nonuniform_layout-requires c =
-    (c.requires.a_value, (c.frame_limits-k.ensures, c.requires.rows_value))
+    record { a_value = c.requires.a_value; known = c.frame_limits-k.ensures; rows_value = c.requires.rows_value }
 
 pub returns : goal.returns
 returns c =
     let a = c.args in
+    let b = buffers a.info.now a.cols.now a.rows.now in
     let flag = flag_unset a.s.now a.p c.look_ahead-word.result c.look_ahead-word.ensures c.if-word-ge2147483648.false in
     c.nonuniform_layout.ensures
-    ∙ ap (λ (q : Place). read_into (non_uniform_layout a.s.now q (layout_in (given c)) a.a) (given c)) (behind a.s.now a.p c.get_bit-uniform.result c.get_bit-uniform.ensures)
-    ∙ ap (λ (z : TileRead). read_into z (given c)) (sym (non_uniform a.s.now a.p (layout_in (given c)) a.a c.requires.a_value flag))
+    ∙ ap (λ (q : Place). read_into (non_uniform_layout a.s.now q (layout_in b) a.a) b) (behind a.s.now a.p c.get_bit-uniform.result c.get_bit-uniform.ensures)
+    ∙ ap (λ (z : TileRead). read_into z b) (sym (non_uniform a.s.now a.p (layout_in b) a.a c.requires.a_value flag))

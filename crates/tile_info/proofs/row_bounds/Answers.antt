@@ -7,7 +7,7 @@ frame_limits-k-requires c = sym c.in_domain.ensures ∙ c.if-in_domain.true
 
 pub max_tile_height_sb-limit-requires : goal.max_tile_height_sb-limit-requires
 max_tile_height_sb-limit-requires c =
-    (sym c.in_domain.ensures ∙ c.if-in_domain.true, c.frame_limits-k.ensures)
+    record { a_value = sym c.in_domain.ensures ∙ c.if-in_domain.true; known = c.frame_limits-k.ensures }
 
 pub returns-then-in_domain : goal.returns-then-in_domain
 returns-then-in_domain c =

@@ -14,7 +14,7 @@ slice_bounds-all_same-end-then-m-stored c = sym (length-take-le _ _ (search rule
 pub returns-then-m-stored : goal.returns-then-m-stored
 returns-then-m-stored c =
     let a = c.args in
-    c.All-same.ensures.0 ∙ enough a.ours.now a.n a.stored.now a.m (omega arith) (omega arith)
+    c.all_same.ensures.equation ∙ enough a.ours.now a.n a.stored.now a.m (omega arith) (omega arith)
 
 pub returns-else-m-stored : goal.returns-else-m-stored
 returns-else-m-stored c =

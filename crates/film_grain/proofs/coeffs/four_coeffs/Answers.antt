@@ -11,6 +11,7 @@ use mir.Syntax.{w8}
 use mir.Val.{to_z, of_z}
 use Rattle.getbits.specs.Bits.{bits_at, bit_count, position, place_at, get_bits}
 use Rattle.getbits.specs.declared.Place.{Place}
+use Rattle.getbits.proofs.Callers.{power_below}
 use Rattle.getbits.proofs.Chain.{through}
 use Rattle.getbits.proofs.Fields.{bits_lt}
 use Rattle.getbits.proofs.Parts.{look_bits, skip_there, first_bits, first_read, last_read}
@@ -18,6 +19,7 @@ use Rattle.film_grain.specs.Coeffs.{coeff}
 use Rattle.film_grain.specs.Inner.{lent_coeffs}
 use Rattle.film_grain.proofs.Numbers.{less_read}
 use Rattle.film_grain.proofs.coeffs.four_coeffs.Goals as goal
+use Rattle.film_grain.proofs.coeffs.four_coeffs.Goals.{After-power-low, After-skip}
 
 -- a coefficient, from its bits
 put : (s : List ℕ) (n i v : ℕ) (l : List ℤ) (p q : Place) → get_bits s p (pos n) ≡ record { value = v; next = q }
@@ -66,30 +68,33 @@ twice n h =
     let f : 2 ^ n ≡ 2 ^ (n - 1) * 2 = ap (λ (m : ℕ). 2 ^ m) e ∙ pow-suc 2 (n - 1) in
     omega (arith, f)
 
+low : (c : After-power-low) → c.power-low.result ≡ 2 ^ c.args.coef_bits
+low c = power_below (omega (arith, c.requires.1)) c.power-low.ensures.0
+
+range : (s : After-power-low) → 2 * s.args.half ≡ 2 ^ s.args.coef_bits
+range s = omega (arith, twice s.args.coef_bits s.requires.0, s.requires.2)
+
 -- the rest of a division
-rest : (c : goal.After-power-low) (x : ℕ) → x % c.power-low.result < 2 * c.args.half
+rest : (c : After-power-low) (x : ℕ) → x % c.power-low.result < 2 * c.args.half
 rest c x = rw (low c) (omega (arith, mod-lt x (pow_pos c.args.coef_bits), range c))
 
 -- a coefficient out of such a rest
-centred_rest : (c : goal.After-power-low) (x : ℕ) {r : ℤ} → let a = c.args in
+centred_rest : (c : After-power-low) (x : ℕ) {r : ℤ} → let a = c.args in
     r ≡ pos (x % c.power-low.result) -ℤ pos a.half → r ≡ pos (x % 2 ^ a.coef_bits) -ℤ pos (2 ^ (a.coef_bits - 1))
 centred_rest c x e =
     e ∙ ap (λ (m : ℕ). pos (x % m) -ℤ pos c.args.half) (low c) ∙ ap (λ (h : ℕ). pos (x % 2 ^ c.args.coef_bits) -ℤ pos h) c.requires.2
 
-range : (s : goal.After-power-low) → 2 * s.args.half ≡ 2 ^ s.args.coef_bits
-range s = omega (arith, twice s.args.coef_bits s.requires.0, s.requires.2)
-
 -- the numbers, read back from their bits
-back : (c : goal.After-skip) → to_z w8 (of_z w8 c.centred.result) ≡ c.centred.result
+back : (c : After-skip) → to_z w8 (of_z w8 c.centred.result) ≡ c.centred.result
 back c = search rules
 
-back_2 : (c : goal.After-skip) → to_z w8 (of_z w8 c.centred-2.result) ≡ c.centred-2.result
+back_2 : (c : After-skip) → to_z w8 (of_z w8 c.centred-2.result) ≡ c.centred-2.result
 back_2 c = search rules
 
-back_3 : (c : goal.After-skip) → to_z w8 (of_z w8 c.centred-3.result) ≡ c.centred-3.result
+back_3 : (c : After-skip) → to_z w8 (of_z w8 c.centred-3.result) ≡ c.centred-3.result
 back_3 c = search rules
 
-back_4 : (c : goal.After-skip) → to_z w8 (of_z w8 c.centred-4.result) ≡ c.centred-4.result
+back_4 : (c : After-skip) → to_z w8 (of_z w8 c.centred-4.result) ≡ c.centred-4.result
 back_4 c = search rules
 
 pub centred-requires : goal.centred-requires
@@ -97,12 +102,12 @@ centred-requires c =
     let small_half : c.args.half ≤ 128 = omega (arith, c.requires.2, pow_mono {i = c.args.coef_bits - 1} {j = 7} (omega (arith, c.requires.1))) in
     let all_bits_lem : let a = c.args in c.look_ahead-w.result ≡ bits_at a.s.now (position a.s.now a.p) (4 * a.coef_bits) = look_bits c.args.s.now c.args.p (4 * c.args.coef_bits) (omega (arith, c.requires.1)) c.look_ahead-w.ensures in
     let a = c.args in
-    (omega (arith, first_lt a.s.now a.p a.coef_bits c.look_ahead-w.result c.requires.1 c.requires.4 (all_bits_lem), range c), small_half)
+    (omega (arith, first_lt a.s.now a.p a.coef_bits c.look_ahead-w.result c.requires.1 c.requires.4 (all_bits_lem), range (goal.at.centred-requires c).After-power-low), small_half)
 
 pub centred-requires-2 : goal.centred-requires-2
 centred-requires-2 c =
     let small_half : c.args.half ≤ 128 = omega (arith, c.requires.2, pow_mono {i = c.args.coef_bits - 1} {j = 7} (omega (arith, c.requires.1))) in
-    (rest c _, small_half)
+    (rest (goal.at.centred-requires-2 c).After-power-low _, small_half)
 
 pub bounds-coeffs-i-2 : goal.bounds-coeffs-i-2
 bounds-coeffs-i-2 c = simp length-set (omega (arith, c.requires.3))
@@ -110,7 +115,7 @@ bounds-coeffs-i-2 c = simp length-set (omega (arith, c.requires.3))
 pub centred-requires-3 : goal.centred-requires-3
 centred-requires-3 c =
     let small_half : c.args.half ≤ 128 = omega (arith, c.requires.2, pow_mono {i = c.args.coef_bits - 1} {j = 7} (omega (arith, c.requires.1))) in
-    (rest c _, small_half)
+    (rest (goal.at.centred-requires-3 c).After-power-low _, small_half)
 
 pub bounds-coeffs-i-3 : goal.bounds-coeffs-i-3
 bounds-coeffs-i-3 c = simp length-set (omega (arith, c.requires.3))
@@ -118,7 +123,7 @@ bounds-coeffs-i-3 c = simp length-set (omega (arith, c.requires.3))
 pub centred-requires-4 : goal.centred-requires-4
 centred-requires-4 c =
     let small_half : c.args.half ≤ 128 = omega (arith, c.requires.2, pow_mono {i = c.args.coef_bits - 1} {j = 7} (omega (arith, c.requires.1))) in
-    (rest c _, small_half)
+    (rest (goal.at.centred-requires-4 c).After-power-low _, small_half)
 
 pub bounds-coeffs-i-4 : goal.bounds-coeffs-i-4
 bounds-coeffs-i-4 c = simp length-set (omega (arith, c.requires.3))
@@ -129,8 +134,8 @@ returns c =
     let a = c.args in
     let w = c.look_ahead-w.result in
     let v1 = c.centred.ensures ∙ ap (λ (h : ℕ). pos (w / 2 ^ (3 * a.coef_bits)) -ℤ pos h) c.requires.2 in
-    let v2 = centred_rest c (w / 2 ^ (2 * a.coef_bits)) c.centred-2.ensures in
-    let v3 = centred_rest c (w / 2 ^ a.coef_bits) c.centred-3.ensures in
-    let v4 = centred_rest c w c.centred-4.ensures in
+    let v2 = centred_rest (goal.at.returns c).After-power-low (w / 2 ^ (2 * a.coef_bits)) c.centred-2.ensures in
+    let v3 = centred_rest (goal.at.returns c).After-power-low (w / 2 ^ a.coef_bits) c.centred-3.ensures in
+    let v4 = centred_rest (goal.at.returns c).After-power-low w c.centred-4.ensures in
     rw (back c ∙ v1, back_2 c ∙ v2, back_3 c ∙ v3, back_4 c ∙ v4, skip_there a.s.now a.p (4 * a.coef_bits) c.requires.4 c.skip.ensures)
     (four a.s.now a.p a.coef_bits w c.requires.1 c.requires.4 (all_bits_lem) a.i a.coeffs.now)

@@ -1,5 +1,5 @@
 use mathlib.Core.Path.{◌≡◌, refl, sym, ap, ◌∙◌}
-use Prim.Native.Nat.{ℕ, ◌+◌, ◌-◌, ◌*◌, ◌^◌, ◌≤◌}
+use Prim.Native.Nat.{ℕ, ◌+◌, ◌-◌, ◌*◌, ◌%◌, ◌^◌, ◌≤◌}
 use native.Mathlib.Omega.{arith}
 use borrow.Author.Rules.{rules}
 use borrow.Author.Tests.{leb-true}
@@ -16,13 +16,14 @@ use Rattle.getbits.proofs.Parts.{more_there}
 use Rattle.film_grain.specs.Coeffs.{CoeffsRead, bits_less, no_coeffs, coeff, coeffs_from}
 use Rattle.film_grain.proofs.Numbers.{half_range}
 use Rattle.film_grain.proofs.coeffs.read_coeffs.Goals as goal
+use Rattle.film_grain.proofs.coeffs.read_coeffs.Goals.{After-bits_less-c}
 
 -- half the range of a coefficient
-half : (c : goal.After-power-half invariant-loop decreases-loop) → c.power-half.result ≡ 2 ^ (c.args.coef_bits - 1)
-half c = power_below (omega (arith, c.requires.2)) c.power-half.ensures.0
+half : {n r : ℕ} → n ≤ 8 → r ≡ 2 ^ ((n - 1) % 32) → r ≡ 2 ^ (n - 1)
+half h e = power_below (omega (arith, h)) e
 
-small : (c : goal.After-power-half invariant-loop decreases-loop) → c.power-half.result ≤ 128
-small c = omega (arith, half c, pow_mono {i = c.args.coef_bits - 1} {j = 7} (omega (arith, c.requires.2)))
+small : {n r : ℕ} → n ≤ 8 → r ≡ 2 ^ ((n - 1) % 32) → r ≤ 128
+small {n} h e = omega (arith, half h e, pow_mono {i = n - 1} {j = 7} (omega (arith, h)))
 
 -- four turns more
 four_more : (n : ℕ) (f : ℕ → CoeffsRead → CoeffsRead) (a : CoeffsRead) → turns (n + 4) f a ≡ f (n + 3) (f (n + 2) (f (n + 1) (f n (turns n f a))))
@@ -36,18 +37,18 @@ four_more n f a =
     ∙ ap (f (n + 3)) (ap t e3 ∙ turns_more (n + 2) f a ∙ ap (f (n + 2)) (ap t e2 ∙ turns_more (n + 1) f a ∙ ap (f (n + 1)) (turns_more n f a)))
 
 -- a coefficient
-read : (c : goal.After-bits_less-c invariant-loop decreases-loop) → let a = c.args in
+read : (c : After-bits_less-c) → let a = c.args in
     c.bits_less-c.result ≡ bits_less a.s.now c.loop-i.next a.coef_bits (2 ^ (a.coef_bits - 1))
 read c =
     let a = c.args in
-    c.bits_less-c.ensures ∙ ap (bits_less a.s.now c.loop-i.next a.coef_bits) (half c)
+    c.bits_less-c.ensures ∙ ap (bits_less a.s.now c.loop-i.next a.coef_bits) (half c.requires.2 c.power-half.ensures.0)
 
-fits : (c : goal.After-bits_less-c invariant-loop decreases-loop) → SFits w8 c.bits_less-c.result.value
+fits : (c : After-bits_less-c) → SFits w8 c.bits_less-c.result.value
 fits c =
     let a = c.args in
-    record { sfits = rw (read c) (omega (arith, half_range a.s.now c.loop-i.next a.coef_bits c.requires.1, half c, small c)) }
+    record { sfits = rw (read c) (omega (arith, half_range a.s.now c.loop-i.next a.coef_bits c.requires.1, half c.requires.2 c.power-half.ensures.0, small c.requires.2 c.power-half.ensures.0)) }
 
-back : (c : goal.After-bits_less-c invariant-loop decreases-loop) → to_z w16 (of_z w16 c.bits_less-c.result.value) ≡ c.bits_less-c.result.value
+back : (c : After-bits_less-c) → to_z w16 (of_z w16 c.bits_less-c.result.value) ≡ c.bits_less-c.result.value
 back c = search rules
 
 pub loop-i-init : goal.loop-i-init
@@ -57,7 +58,7 @@ loop-i-init c = let z = c.requires.3 in (omega arith, rw z refl, rw z refl)
 pub four_coeffs-next-requires : goal.four_coeffs-next-requires
 four_coeffs-next-requires c =
     let t = both (leb (c.loop-i.i + 4) c.args.n) c.more_than.result c.if-i-n.true in
-    (c.requires.1, c.requires.2, half c, omega (arith, leb-true (c.loop-i.i + 4) c.args.n t.0, c.requires.0, c.loop-i.invariant.1), more_there c.args.s.now c.loop-i.next (4 * c.args.coef_bits) c.more_than.ensures t.1)
+    (c.requires.1, c.requires.2, half c.requires.2 c.power-half.ensures.0, omega (arith, leb-true (c.loop-i.i + 4) c.args.n t.0, c.requires.0, c.loop-i.invariant.1), more_there c.args.s.now c.loop-i.next (4 * c.args.coef_bits) c.more_than.ensures t.1)
 
 pub overflow_mul-coef_bits : goal.overflow_mul-coef_bits
 overflow_mul-coef_bits c = omega (arith, c.requires.2)
@@ -81,10 +82,10 @@ loop-i-preserved-then-i-n c =
     )
 
 pub bits_less-c-requires : goal.bits_less-c-requires
-bits_less-c-requires c = (omega (arith, c.requires.2), omega (arith, small c))
+bits_less-c-requires c = (omega (arith, c.requires.2), omega (arith, small c.requires.2 c.power-half.ensures.0))
 
 pub overflow_cast-coeffs : goal.overflow_cast-coeffs
-overflow_cast-coeffs c = rw (back c) (fits c)
+overflow_cast-coeffs c = rw (back (goal.at.overflow_cast-coeffs c).After-bits_less-c) (fits (goal.at.overflow_cast-coeffs c).After-bits_less-c)
 
 pub bounds-coeffs-i : goal.bounds-coeffs-i
 bounds-coeffs-i c = omega (arith, c.loop-i.invariant.1, c.requires.0)
@@ -94,7 +95,7 @@ unfolding coeff
 loop-i-preserved c =(
       omega arith,
       simp length-set c.loop-i.invariant.1,
-      rw (back c, to_z-of_z w8 _ (fits c)) (sym (turns_more _ _ _ ∙ ap (coeff _ _ _) (sym c.loop-i.invariant.2) ∙ through _ _ (read c))),
+      rw (back (goal.at.loop-i-preserved c).After-bits_less-c, to_z-of_z w8 _ (fits (goal.at.loop-i-preserved c).After-bits_less-c)) (sym (turns_more _ _ _ ∙ ap (coeff _ _ _) (sym c.loop-i.invariant.2) ∙ through _ _ (read (goal.at.loop-i-preserved c).After-bits_less-c))),
     )
 
 pub shape_of-coeffs : goal.shape_of-coeffs

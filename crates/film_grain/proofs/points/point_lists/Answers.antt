@@ -5,10 +5,6 @@ use Rattle.film_grain.specs.Points.{PointLists, point_lists}
 use Rattle.film_grain.proofs.Answers.{neither}
 use Rattle.film_grain.proofs.points.point_lists.Goals as goal
 
-pub shape_of-y_list : goal.shape_of-y_list
-shape_of-y_list c =
-    c.points_if-y.auto.1.1.1.0
-
 pub returns : goal.returns
 unfolding point_lists
 returns c =

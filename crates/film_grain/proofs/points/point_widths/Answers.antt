@@ -62,7 +62,7 @@ returns-then-n c =
     let room : let a = c.args in position a.s.now a.p + 9 ≤ bit_count a.s.now = let a = c.args in more_there a.s.now a.p 9 c.more_than.ensures c.if-more_than.true in
     let nine : let a = c.args in c.look_ahead-w.result ≡ bits_at a.s.now (position a.s.now a.p) 9 = let a = c.args in look_bits a.s.now a.p 9 (omega arith) c.look_ahead-w.ensures in
     let a = c.args in
-    rw (skip_there a.s.now a.p 4 (omega (arith, room)) c.skip.ensures) (without a.s.now a.p _ 1 5 (count a.s.now a.p c.look_ahead-w.result (room) (nine)) c.if-n.true, search rules)
+    rw (skip_there a.s.now a.p 4 (omega (arith, room)) c.skip.ensures) (record { p_value = without a.s.now a.p _ 1 5 (count a.s.now a.p c.look_ahead-w.result (room) (nine)) c.if-n.true; bound = search rules })
 
 pub returns-then-more_than : goal.returns-then-more_than
 returns-then-more_than c =
@@ -70,14 +70,14 @@ returns-then-more_than c =
     let nine : let a = c.args in c.look_ahead-w.result ≡ bits_at a.s.now (position a.s.now a.p) 9 = let a = c.args in look_bits a.s.now a.p 9 (omega arith) c.look_ahead-w.ensures in
     let a = c.args in
     let w = c.look_ahead-w.result in
-    rw (skip_there a.s.now a.p 9 (room) c.skip-then-more_than.ensures) (
-      with_widths a.s.now a.p _ _ _ (count a.s.now a.p w (room) (nine)) (index a.s.now a.p w (room) (nine)) (scaling a.s.now a.p w (room) (nine)) c.if-n.false,
-      (omega arith, omega arith, omega arith, omega arith),
-    )
+    rw (skip_there a.s.now a.p 9 (room) c.skip-then-more_than.ensures) (record {
+      p_value = with_widths a.s.now a.p _ _ _ (count a.s.now a.p w (room) (nine)) (index a.s.now a.p w (room) (nine)) (scaling a.s.now a.p w (room) (nine)) c.if-n.false;
+      bound = (omega arith, omega arith, omega arith, omega arith);
+    })
 
 pub returns-then-n-2 : goal.returns-then-n-2
 returns-then-n-2 c =
-    (without _ _ _ 1 5 c.get_small-n.ensures.is c.if-n-2.true, search rules)
+    record { p_value = without _ _ _ 1 5 c.get_small-n.ensures.is c.if-n-2.true; bound = search rules }
 
 pub returns : goal.returns
 returns c =

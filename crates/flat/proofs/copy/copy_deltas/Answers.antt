@@ -1,5 +1,6 @@
 use Prim.Native.Nat.{◌-◌}
 use native.Mathlib.Omega.{arith}
+use borrow.Author.Rules.{rules}
 use mir.Syntax.{w16}
 use mir.Facts.{to_z-of_z}
 use lib.IntN.{pos}
@@ -15,7 +16,7 @@ bounds-out-i c = omega (arith, c.loop-i.invariant.long)
 pub loop-i-preserved : goal.loop-i-preserved
 loop-i-preserved c =
     let a = c.args in
-    front_turned a.out.now a.xs.now (omega (arith, c.requires.0, c.requires.1)) c.loop-i.out c.loop-i.i _ (pos 0) (omega (arith, c.loop-i-test.true, c.requires.1)) (to_z-of_z {w = w16} (record { sfits = c.out-1.given })) c.loop-i.invariant
+    front_turned a.out.now a.xs.now (omega (arith, c.requires.0, c.requires.1)) c.loop-i.out c.loop-i.i _ (pos 0) (omega (arith, c.loop-i-test.true, c.requires.1)) (to_z-of_z {w = w16} (record { sfits = search rules })) c.loop-i.invariant
 
 pub shape_of-out : goal.shape_of-out
 shape_of-out c = c.loop-i.invariant.long

@@ -1,4 +1,5 @@
 use Prim.Native.Nat.{◌-◌}
+use borrow.Author.Rules.{rules}
 use lib.IntN.{pos}
 use mir.Syntax.{w16}
 use mir.Facts.{to_z-of_z}
@@ -14,7 +15,7 @@ bounds-delta_q-i c = c.loop-i-test.true
 pub loop-i-preserved : goal.loop-i-preserved
 loop-i-preserved c =
     let a = c.args in
-    filled 16 a.xs.now (pos 0) c.requires c.loop-i.delta_q c.loop-i.i _ c.loop-i-test.true (to_z-of_z {w = w16} (record { sfits = c.delta_q-1.given })) c.loop-i.invariant
+    filled 16 a.xs.now (pos 0) c.requires c.loop-i.delta_q c.loop-i.i _ c.loop-i-test.true (to_z-of_z {w = w16} (record { sfits = search rules })) c.loop-i.invariant
 
 pub returns : goal.returns
 returns c =

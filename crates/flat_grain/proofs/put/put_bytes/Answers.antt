@@ -1,5 +1,6 @@
 use Prim.Native.Nat.{◌-◌}
 use native.Mathlib.Omega.{arith}
+use borrow.Author.Rules.{rules}
 use mir.Syntax.{w16}
 use Rattle.flat.proofs.Rows.{begun, widened, wide}
 use Rattle.flat_grain.proofs.put.put_bytes.Goals as goal
@@ -8,7 +9,7 @@ pub loop-i-init : goal.loop-i-init
 loop-i-init c = begun _ _ _
 
 pub overflow_cast-out : goal.overflow_cast-out
-overflow_cast-out c = record { sfits = omega (arith, c.shared_slice_known-1.given c.loop-i.i) }
+overflow_cast-out c = record { sfits = search rules }
 
 pub bounds-out-at : goal.bounds-out-at
 bounds-out-at c = omega (arith, c.loop-i.invariant.long)
@@ -16,7 +17,7 @@ bounds-out-at c = omega (arith, c.loop-i.invariant.long)
 pub loop-i-preserved : goal.loop-i-preserved
 loop-i-preserved c =
     let a = c.args in
-    widened a.out.now a.at a.xs.now w16 c.requires c.loop-i.out c.loop-i.i c.loop-i-test.true (omega (arith, c.shared_slice_known-1.given c.loop-i.i)) c.loop-i.invariant
+    widened a.out.now a.at a.xs.now w16 c.requires c.loop-i.out c.loop-i.i c.loop-i-test.true (search rules) c.loop-i.invariant
 
 pub shape_of-out : goal.shape_of-out
 shape_of-out c = c.loop-i.invariant.long

@@ -1,6 +1,7 @@
 use mathlib.Core.Path.{◌≡◌}
 use Prim.Native.Nat.{◌+◌, ◌^◌, ◌<◌}
 use native.Mathlib.Omega.{arith}
+use borrow.Author.Rules.{rules}
 use lib.IntN.{ℤ, pos}
 use lib.ListN.{get_or, set, length-set}
 use lib.Signed.{mag}
@@ -20,8 +21,8 @@ bounds-out-at-2 c = simp length-set (omega (arith, c.requires))
 pub returns : goal.returns
 returns c =
     let a = c.args in
-    let x = get_or a.t3 0 (pos 0) in
-    let first = one a.out.now a.at (back x c.out-1.given) (omega (arith, c.requires)) in
-    let second = one (set a.out.now a.at (to_z w16 (of_z w16 x))) (a.at + 1) (back (get_or a.t3 1 (pos 0)) c.out-2-1.given) (simp length-set (omega (arith, c.requires))) in
+    let x = get_or a.xs 0 (pos 0) in
+    let first = one a.out.now a.at (back x (search rules)) (omega (arith, c.requires)) in
+    let second = one (set a.out.now a.at (to_z w16 (of_z w16 x))) (a.at + 1) (back (get_or a.xs 1 (pos 0)) (search rules)) (simp length-set (omega (arith, c.requires))) in
     let w = both first second (omega (arith, c.requires)) in
     record { stands = w.stands; count = w.count; next = omega arith; long = w.long }

@@ -1,6 +1,7 @@
 use mathlib.Core.Path.{refl}
 use Prim.Native.Nat.{◌-◌}
 use native.Mathlib.Omega.{arith}
+use borrow.Author.Rules.{rules}
 use lib.IntN.{pos}
 use lib.ListN.{length, get_or}
 use mir.Syntax.{w16, w64}
@@ -11,7 +12,7 @@ pub loop-i-init : goal.loop-i-init
 loop-i-init c = begun _ _ _
 
 pub overflow_cast-out : goal.overflow_cast-out
-overflow_cast-out c = sign_fits w16 w64 (get_or c.args.xs.now c.loop-i.i (pos 0)) tt c.out-1.given
+overflow_cast-out c = sign_fits w16 w64 (get_or c.args.xs.now c.loop-i.i (pos 0)) tt (search rules)
 
 pub bounds-out-at : goal.bounds-out-at
 bounds-out-at c = omega (arith, c.loop-i.invariant.long)
@@ -19,7 +20,7 @@ bounds-out-at c = omega (arith, c.loop-i.invariant.long)
 pub loop-i-preserved : goal.loop-i-preserved
 loop-i-preserved c =
     let a = c.args in
-    turned a.out.now a.at a.xs.now c.requires c.loop-i.out c.loop-i.i _ (pos 0) c.loop-i-test.true (sign_kept w16 w64 (get_or a.xs.now c.loop-i.i (pos 0)) tt c.out-1.given) c.loop-i.invariant
+    turned a.out.now a.at a.xs.now c.requires c.loop-i.out c.loop-i.i _ (pos 0) c.loop-i-test.true (sign_kept w16 w64 (get_or a.xs.now c.loop-i.i (pos 0)) tt (search rules)) c.loop-i.invariant
 
 pub shape_of-out : goal.shape_of-out
 shape_of-out c = c.loop-i.invariant.long

@@ -10,7 +10,7 @@ use Rattle.tile_info.proofs.nonuniform.read_tiles.Goals as goal
 
 pub bounds-starts-tiles : goal.bounds-starts-tiles
 bounds-starts-tiles c =
-    omega (arith, c.read_sizes-z.ensures.few, c.starts-1.given, c.requires.0)
+    omega (arith, c.read_sizes-z.ensures.few, c.requires.0)
 
 pub returns : goal.returns
 returns c =
@@ -21,7 +21,7 @@ returns c =
     let v : c.number.result ≡ a.total.0 = omega (arith, c.number.ensures, c.requires.1) in
     record {
       counted = z.counted;
-      c = c.tiles_log2-log2.ensures ∙ ap (tile_log2 1) z.counted;
+      log = c.tiles_log2-log2.ensures ∙ ap (tile_log2 1) z.counted;
       left = c.below-short.ensures ∙ ap (λ (x : ℕ). ltb x a.total.0) z.summed;
       wides = z.wides;
       stands = z.stands;

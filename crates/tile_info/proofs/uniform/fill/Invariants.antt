@@ -9,7 +9,7 @@ abbrev pub invariant-loop-pair : goal.invariant-loop-pair
 invariant-loop-pair l =
     (l.sbx.0 ≡ l.split.tile.0 * l.i + min l.i l.split.extra.0)
     × (l.i ≤ l.split.tiles.0)
-    × (l.starts ≡ padded (tabulate (λ l.i. multiplier_of l.pair.frame_code l.pair.seq_code * (l.split.tile.0 * l.i + min l.i l.split.extra.0)) 0 l.i) ++ drop 65 l.initial.starts)
+    × (l.starts ≡ padded (tabulate (λ j. multiplier_of l.pair.frame_code l.pair.seq_code * (l.split.tile.0 * j + min j l.split.extra.0)) 0 l.i) ++ drop 65 l.initial.starts)
     × (length l.starts ≡ length l.initial.starts)
 
 abbrev pub decreases-loop-pair : goal.decreases-loop-pair
