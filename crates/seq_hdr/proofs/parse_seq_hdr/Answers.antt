@@ -2,7 +2,6 @@ use mathlib.Core.Bool.{Bool}
 use mathlib.Core.List.{List}
 use mathlib.Core.Path.{◌≡◌, refl, ap, sym, subst, ◌∙◌}
 use Prim.Native.Nat.{ℕ}
-use Rattle.answers.specs.Numbers.{number_of}
 use Rattle.getbits.specs.declared.Place.{Place}
 use Rattle.getbits.proofs.Chain.{taken, left}
 use Rattle.flat.specs.Layout.{put_layout}
@@ -19,9 +18,9 @@ use Rattle.seq_hdr.proofs.parse_seq_hdr.Goals as goal
 
 -- the header, and what is promised of its layout
 promised : (s : List ℕ) (p : Place) (strict : Bool) {r : SeqRead} → parse_seq_hdr s p strict ≡ r
-    → (r ≡ parse_seq_hdr s p strict) × HeaderLayout s p (number_of r.answer) r.hdr.tiling.t
+    → (r ≡ parse_seq_hdr s p strict) × HeaderLayout s p r
 promised s p strict e =
-    (sym e, subst (λ (r : SeqRead). HeaderLayout s p (number_of r.answer) r.hdr.tiling.t) e (header_layout s p strict))
+    (sym e, subst (HeaderLayout s p) e (header_layout s p strict))
 
 pub returns-then-is_refusal : goal.returns-then-is_refusal
 returns-then-is_refusal c =

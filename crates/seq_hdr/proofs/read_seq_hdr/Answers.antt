@@ -20,10 +20,10 @@ use Rattle.tile_layout.specs.declared.TileInfo.{TileInfo}
 use Rattle.seq_hdr.specs.declared.HeaderOutcome.{HeaderOutcome}
 use Rattle.seq_hdr.specs.declared.SeqRead.{SeqRead}
 use Rattle.seq_hdr.specs.Header.{refused_header, with_tiling, parse_seq_hdr}
-use Rattle.seq_hdr.specs.HeaderLayout.{HeaderLayout}
+use Rattle.seq_hdr.specs.HeaderTiling.{HeaderTiling}
 use Rattle.seq_hdr.specs.Into.{parse_seq_hdr_into}
 use Rattle.seq_hdr.specs.Tiling.{read_tiling}
-use Rattle.seq_hdr.proofs.HeaderLayout.{header_layout}
+use Rattle.seq_hdr.proofs.HeaderLayout.{header_tiling}
 use Rattle.seq_hdr.proofs.Into.{room-still, goes_over, head_ends, as_refused, head_goes_on}
 use Rattle.seq_hdr.proofs.read_seq_hdr.Goals as goal
 
@@ -32,7 +32,7 @@ module _ (s : List ℕ) (p : Place) (strict : Bool) (out : List ℤ) (b : Buffer
   abbrev Left : HeaderOutcome → List ℤ → Buffers → Type 0
   Left r out' after =
       ((r, out', after) ≡ parse_seq_hdr_into s p strict out b)
-      × ((has_room b ≡ true → layout_in after ≡ (parse_seq_hdr s p strict).hdr.tiling.t) × (has_room b ≡ true → HeaderLayout s p (number_of r.answer) (layout_in after)))
+      × ((has_room b ≡ true → layout_in after ≡ (parse_seq_hdr s p strict).hdr.tiling.t) × (has_room b ≡ true → HeaderTiling s p (number_of r.answer) (layout_in after)))
 
   whole : (z : SeqRead) {out' : List ℤ} {after : Buffers} → length after.col_starts_lem ≡ length b.col_starts_lem → length after.row_starts_lem ≡ length b.row_starts_lem
       → parse_seq_hdr s p strict ≡ z → out' ≡ over_front 146 (flat_seq_hdr z.hdr) out → after ≡ put_layout z.hdr.tiling.t b
@@ -45,8 +45,8 @@ module _ (s : List ℕ) (p : Place) (strict : Bool) (out : List ℤ) (b : Buffer
             ∙ sym (taken _ _ _ has ∙ through _ _ refl),
         (
           λ _. back ∙ ap (λ (x : SeqRead). x.hdr.tiling.t) (sym e),
-          λ _. subst (HeaderLayout s p (number_of z.answer)) (sym back)
-              (subst (λ (x : SeqRead). HeaderLayout s p (number_of x.answer) x.hdr.tiling.t) e (header_layout s p strict)),
+          λ _. subst (HeaderTiling s p (number_of z.answer)) (sym back)
+              (subst (λ (x : SeqRead). HeaderTiling s p (number_of x.answer) x.hdr.tiling.t) e (header_tiling s p strict)),
         ),
       )
 
@@ -62,7 +62,7 @@ pub returns-then-not-has_room : goal.returns-then-not-has_room
 unfolding parse_seq_hdr_into
 returns-then-not-has_room c =
     let lacks = sym c.has_room.ensures ∙ c.if-not-has_room.true in
-    record { after_after = rw c.too_short.ensures (sym (left _ _ _ lacks)); fact = λ h. contrary h lacks; fact_2 = λ h. contrary h lacks }
+    record { after_after = sym (left _ _ _ lacks); fact = λ h. contrary h lacks; fact_2 = λ h. contrary h lacks }
 
 pub clear_layout-requires : goal.clear_layout-requires
 clear_layout-requires c = sym c.has_room.ensures ∙ c.if-not-has_room.false
