@@ -19,7 +19,8 @@ use Rattle.layout_bits.proofs.Packed.{bytes_length, bytes_take}
 use Rattle.layout_row.specs.Row.{row_of}
 use Rattle.layout_writing.specs.declared.Written.{Written}
 use Rattle.layout_writing.specs.Write.{again, reads_as, refusal, write_tile_info}
-use Rattle.layout_writing.specs.Promises.{SomeBits, Writing}
+use Rattle.layout_writing.specs.Called.{WritingOf}
+use Rattle.layout_writing.specs.Promises.{SomeBits}
 use Rattle.layout_writing.proofs.Reading.{start, some_bits, short}
 use Rattle.layout_writing.proofs.Writing.{promised}
 use Rattle.tile_write.proofs.Row.{row_known, asked}
@@ -28,7 +29,7 @@ use Rattle.tile_write.proofs.write_tile_info.Goals.{After-reads_as}
 
 -- what a call leaves, as the contract names it
 told : (a : TileArgs) (t : TileInfo) (o : List ℕ) {w : Written} {after : List ℕ} → (w, after) ≡ write_tile_info a t o
-    → record { out_after : (w, after) ≡ write_tile_info a t o; writing : Writing a t o w after }
+    → record { out_after : (w, after) ≡ write_tile_info a t o; writing : WritingOf a t o w after }
 told a t o e =
     let w = promised a t o e in
     record { out_after = w.0; writing = w.1 }
