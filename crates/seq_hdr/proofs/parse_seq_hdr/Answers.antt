@@ -36,10 +36,10 @@ pub returns-then-is_refusal-2 : goal.returns-then-is_refusal-2
 returns-then-is_refusal-2 c =
     let a = c.args in
     let w = promised a.s.now a.p a.strict
-        (head_goes_on a.s.now a.p a.strict c.read_head-head.ensures.is (sym c.is_refusal.ensures ∙ c.if-is_refusal.false)
-        ∙ c.read_rest-rest.ensures.0 c.read_head-head.result.hdr
-        ∙ taken _ _ _ (sym c.is_refusal-2.ensures ∙ c.if-is_refusal-2.true)
-        ∙ sym c.refuse_header.ensures) in
+    (head_goes_on a.s.now a.p a.strict c.read_head-head.ensures.is (sym c.is_refusal.ensures ∙ c.if-is_refusal.false)
+    ∙ c.read_rest-rest.ensures.0 c.read_head-head.result.hdr
+    ∙ taken _ _ _ (sym c.is_refusal-2.ensures ∙ c.if-is_refusal-2.true)
+    ∙ sym c.refuse_header.ensures) in
     record { value = w.0; header_layout = w.1 }
 
 pub returns : goal.returns
@@ -51,9 +51,9 @@ returns c =
     let fine = sym c.is_refusal-2.ensures ∙ c.if-is_refusal-2.false in
     let same = c.tile_info_of-t.ensures ∙ came_back t _ _ refl (c.read_rest-rest.ensures.1 ∙ left _ _ _ fine) c.read_rest-rest.auto.cols c.read_rest-rest.auto.rows in
     let w = promised a.s.now a.p a.strict
-        (head_goes_on a.s.now a.p a.strict c.read_head-head.ensures.is (sym c.is_refusal.ensures ∙ c.if-is_refusal.false)
-        ∙ c.read_rest-rest.ensures.0 x.hdr
-        ∙ left _ _ _ fine
-        ∙ ap (λ (hdr : SequenceHeader). record { answer = y.answer; hdr = hdr; next = y.next })
-        (ap (λ (l : TileInfo). with_tiling x.hdr (record { present = y.present; t = l }) y.film_grain_present) (sym same) ∙ sym c.with_tiling-hdr.ensures)) in
+    (head_goes_on a.s.now a.p a.strict c.read_head-head.ensures.is (sym c.is_refusal.ensures ∙ c.if-is_refusal.false)
+    ∙ c.read_rest-rest.ensures.0 x.hdr
+    ∙ left _ _ _ fine
+    ∙ ap (λ (hdr : SequenceHeader). record { answer = y.answer; hdr = hdr; next = y.next })
+    (ap (λ (l : TileInfo). with_tiling x.hdr (record { present = y.present; t = l }) y.film_grain_present) (sym same) ∙ sym c.with_tiling-hdr.ensures)) in
     record { value = w.0; header_layout = w.1 }

@@ -76,9 +76,9 @@ returns-then-is_refusal c =
     let x = r.result in
     let refusal : is_refusal x.answer ≡ true = sym c.is_refusal.ensures ∙ c.if-is_refusal.true in
     let w = zeros a.s.now a.p a.strict a.out.now b has x.answer x.next c.clear_layout.auto.cols c.clear_layout.auto.rows
-        (head_ends a.s.now a.p a.strict r.ensures.is refusal ∙ as_refused a.s.now a.p a.strict r.ensures.is refusal)
-        (c.put_zeros.ensures ∙ r.ensures.numbers.behind (replicate 146 (pos 0)))
-        c.clear_layout.ensures in
+    (head_ends a.s.now a.p a.strict r.ensures.is refusal ∙ as_refused a.s.now a.p a.strict r.ensures.is refusal)
+    (c.put_zeros.ensures ∙ r.ensures.numbers.behind (replicate 146 (pos 0)))
+    c.clear_layout.ensures in
     record { after_after = w.0; fact = w.1.0; fact_2 = w.1.1 }
 
 pub read_rest-rest-requires : goal.read_rest-rest-requires
@@ -100,10 +100,10 @@ returns-then-is_refusal-2 c =
     let k = c.read_rest-rest in
     let refusal = sym c.is_refusal-2.ensures ∙ c.if-is_refusal-2.true in
     let w = zeros a.s.now a.p a.strict a.out.now b has k.result.answer k.result.next
-        (k.auto.cols ∙ c.clear_layout.auto.cols) (k.auto.rows ∙ c.clear_layout.auto.rows)
-        (head_goes_on a.s.now a.p a.strict r.ensures.is (sym c.is_refusal.ensures ∙ c.if-is_refusal.false) ∙ k.ensures.0 r.result.hdr ∙ taken _ _ _ refusal)
-        (c.put_zeros-then-is_refusal-2.ensures ∙ r.ensures.numbers.behind (replicate 146 (pos 0)))
-        (k.ensures.1 ∙ taken _ _ _ refusal ∙ c.clear_layout.ensures) in
+    (k.auto.cols ∙ c.clear_layout.auto.cols) (k.auto.rows ∙ c.clear_layout.auto.rows)
+    (head_goes_on a.s.now a.p a.strict r.ensures.is (sym c.is_refusal.ensures ∙ c.if-is_refusal.false) ∙ k.ensures.0 r.result.hdr ∙ taken _ _ _ refusal)
+    (c.put_zeros-then-is_refusal-2.ensures ∙ r.ensures.numbers.behind (replicate 146 (pos 0)))
+    (k.ensures.1 ∙ taken _ _ _ refusal ∙ c.clear_layout.ensures) in
     record { after_after = w.0; fact = w.1.0; fact_2 = w.1.1 }
 
 pub returns : goal.returns
@@ -124,7 +124,7 @@ returns c =
     let t : TileInfo = (read_tiling x.hdr.blocks.partition.sb128 x.hdr.picture.size x.hdr.level a.s.now x.next).fields.t in
     let z : SeqRead = record { answer = y.answer; hdr = with_tiling x.hdr (record { present = y.present; t = t }) y.film_grain_present; next = y.next } in
     let w = whole a.s.now a.p a.strict a.out.now b has z (k.auto.cols ∙ cols) (k.auto.rows ∙ rows)
-        (head_goes_on a.s.now a.p a.strict r.ensures.is accepted ∙ k.ensures.0 x.hdr ∙ left _ _ _ fine)
-        (all_put (and_then (r.ensures.numbers.stands accepted) c.put_last.ensures (omega arith)))
-        (k.ensures.1 ∙ left _ _ _ fine ∙ goes_over no_tile_info b _ has c.clear_layout.ensures cols rows t) in
+    (head_goes_on a.s.now a.p a.strict r.ensures.is accepted ∙ k.ensures.0 x.hdr ∙ left _ _ _ fine)
+    (all_put (and_then (r.ensures.numbers.stands accepted) c.put_last.ensures (omega arith)))
+    (k.ensures.1 ∙ left _ _ _ fine ∙ goes_over no_tile_info b _ has c.clear_layout.ensures cols rows t) in
     record { after_after = w.0; fact = w.1.0; fact_2 = w.1.1 }
