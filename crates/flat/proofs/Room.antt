@@ -2,11 +2,11 @@
 use mathlib.Core.Bool.{Bool, true, false, not}
 use mathlib.Core.List.{List, ◌++◌}
 use mathlib.Core.Path.{◌≡◌, refl, sym, ap, ◌∙◌}
-use Prim.Native.Nat.{ℕ, ◌+◌, ◌≤◌}
+use Prim.Native.Nat.{ℕ, ◌≤◌}
 use native.Mathlib.Omega.{arith}
 use borrow.Author.Tests.{le-leb, leb-true}
 use lib.Dec.{leb, eqb}
-use lib.ListN.{length, drop, take, length-append, length-drop, replicate}
+use lib.ListN.{length, drop, length-append, length-drop, replicate}
 use lib.Seq.{take_at, drop-append_seam}
 use Rattle.getbits.proofs.Chain.{both, taken}
 use Rattle.seq_fields.specs.Fields.{bit_of}

@@ -1,5 +1,4 @@
 use mathlib.Core.Path.{refl}
-use Prim.Native.Nat.{◌-◌}
 use native.Mathlib.Omega.{arith}
 use Rattle.flat.proofs.Rows.{begun, front_turned, over_front_lem}
 use Rattle.flat.proofs.copy.copy_starts.Goals as goal

@@ -1,5 +1,4 @@
 use mathlib.Core.Path.{refl}
-use Prim.Native.Nat.{◌-◌}
 use Rattle.flat.proofs.Rows.{begun, filled, full}
 use Rattle.flat.proofs.copy.starts_of.Goals as goal
 
