@@ -1,5 +1,9 @@
+use mathlib.Core.Bool.{Bool}
+use mathlib.Core.List.{List}
 use mathlib.Core.Path.{◌≡◌, refl, ap, sym, subst, ◌∙◌}
+use Prim.Native.Nat.{ℕ}
 use Rattle.answers.specs.Numbers.{number_of}
+use Rattle.getbits.specs.declared.Place.{Place}
 use Rattle.getbits.proofs.Chain.{taken, left}
 use Rattle.flat.specs.Layout.{put_layout}
 use Rattle.flat.proofs.Room.{came_back}
@@ -10,52 +14,47 @@ use Rattle.seq_hdr.specs.HeaderLayout.{HeaderLayout}
 use Rattle.seq_hdr.specs.Tiling.{read_tiling}
 use Rattle.seq_hdr.specs.declared.SeqRead.{SeqRead}
 use Rattle.seq_hdr.proofs.HeaderLayout.{header_layout}
-use Rattle.seq_hdr.proofs.Into.{head_ends, rest_of, head_goes_on}
+use Rattle.seq_hdr.proofs.Into.{head_ends, head_goes_on}
 use Rattle.seq_hdr.proofs.parse_seq_hdr.Goals as goal
 
-abbrev start : goal.After-is_refusal → goal.Start
-start h = h.before.before.before.before.before
-
 -- the header, and what is promised of its layout
-promised : (h : goal.After-is_refusal) {r : SeqRead} → let a = (start h).args in parse_seq_hdr a.s.now a.p a.strict ≡ r
-    → (r ≡ parse_seq_hdr a.s.now a.p a.strict) × HeaderLayout a.s.now a.p (number_of r.answer) r.hdr.tiling.t
-promised h e =
-    let a = (start h).args in
-    (sym e, subst (λ (r : SeqRead). HeaderLayout a.s.now a.p (number_of r.answer) r.hdr.tiling.t) e (header_layout a.s.now a.p a.strict))
+promised : (s : List ℕ) (p : Place) (strict : Bool) {r : SeqRead} → parse_seq_hdr s p strict ≡ r
+    → (r ≡ parse_seq_hdr s p strict) × HeaderLayout s p (number_of r.answer) r.hdr.tiling.t
+promised s p strict e =
+    (sym e, subst (λ (r : SeqRead). HeaderLayout s p (number_of r.answer) r.hdr.tiling.t) e (header_layout s p strict))
 
 pub returns-then-is_refusal : goal.returns-then-is_refusal
 returns-then-is_refusal c =
-    let a = (start c).args in
-    let w = promised c (head_ends a.s.now a.p a.strict c.read_head-head.ensures.is (sym c.is_refusal.ensures ∙ c.if-is_refusal.true)) in
+    let a = c.args in
+    let w = promised a.s.now a.p a.strict (head_ends a.s.now a.p a.strict c.read_head-head.ensures.is (sym c.is_refusal.ensures ∙ c.if-is_refusal.true)) in
     record { value = w.0; header_layout = w.1 }
 
 pub read_rest-rest-requires : goal.read_rest-rest-requires
 unfolding put_layout
-read_rest-rest-requires c = (refl, refl)
+read_rest-rest-requires c = record { rows_value = refl; rows_value_2 = refl }
 
 pub returns-then-is_refusal-2 : goal.returns-then-is_refusal-2
 returns-then-is_refusal-2 c =
-    let to_rest : let a = (start c).args in parse_seq_hdr a.s.now a.p a.strict ≡ rest_of a.strict a.s.now c.read_head-head.result = let a = (start c).args in
-    head_goes_on a.s.now a.p a.strict c.read_head-head.ensures.is (sym c.is_refusal.ensures ∙ c.if-is_refusal.false) in
-    let w = c.read_rest-rest in
-    let w = promised c (to_rest ∙ w.ensures.0 c.read_head-head.result.hdr ∙ taken _ _ _ (sym c.is_refusal-2.ensures ∙ c.if-is_refusal-2.true) ∙ sym c.refuse_header.ensures) in
+    let a = c.args in
+    let w = promised a.s.now a.p a.strict
+        (head_goes_on a.s.now a.p a.strict c.read_head-head.ensures.is (sym c.is_refusal.ensures ∙ c.if-is_refusal.false)
+        ∙ c.read_rest-rest.ensures.0 c.read_head-head.result.hdr
+        ∙ taken _ _ _ (sym c.is_refusal-2.ensures ∙ c.if-is_refusal-2.true)
+        ∙ sym c.refuse_header.ensures) in
     record { value = w.0; header_layout = w.1 }
 
 pub returns : goal.returns
 returns c =
-    let to_rest : let a = (start c).args in parse_seq_hdr a.s.now a.p a.strict ≡ rest_of a.strict a.s.now c.read_head-head.result = let a = (start c).args in
-    head_goes_on a.s.now a.p a.strict c.read_head-head.ensures.is (sym c.is_refusal.ensures ∙ c.if-is_refusal.false) in
-    let a = (start c).args in
+    let a = c.args in
     let x = c.read_head-head.result in
-    let w = c.read_rest-rest in
-    let y = w.result in
-    let t = (read_tiling x.hdr.blocks.partition.sb128 x.hdr.picture.size x.hdr.level a.s.now x.next).fields.t in
+    let y = c.read_rest-rest.result in
+    let t : TileInfo = (read_tiling x.hdr.blocks.partition.sb128 x.hdr.picture.size x.hdr.level a.s.now x.next).fields.t in
     let fine = sym c.is_refusal-2.ensures ∙ c.if-is_refusal-2.false in
-    let same = c.tile_info_of-t.ensures ∙ came_back t _ _ refl (w.ensures.1 ∙ left _ _ _ fine) c.cols-2-1.given c.rows-2-1.given in
-    let w = promised c
-    (to_rest
-    ∙ w.ensures.0 x.hdr
-    ∙ left _ _ _ fine
-    ∙ ap (λ (hdr : SequenceHeader). record { answer = y.answer; hdr = hdr; next = y.next })
-    (ap (λ (l : TileInfo). with_tiling x.hdr (record { present = y.present; t = l }) y.film_grain_present) (sym same) ∙ sym c.with_tiling-hdr.ensures)) in
+    let same = c.tile_info_of-t.ensures ∙ came_back t _ _ refl (c.read_rest-rest.ensures.1 ∙ left _ _ _ fine) c.read_rest-rest.auto.cols c.read_rest-rest.auto.rows in
+    let w = promised a.s.now a.p a.strict
+        (head_goes_on a.s.now a.p a.strict c.read_head-head.ensures.is (sym c.is_refusal.ensures ∙ c.if-is_refusal.false)
+        ∙ c.read_rest-rest.ensures.0 x.hdr
+        ∙ left _ _ _ fine
+        ∙ ap (λ (hdr : SequenceHeader). record { answer = y.answer; hdr = hdr; next = y.next })
+        (ap (λ (l : TileInfo). with_tiling x.hdr (record { present = y.present; t = l }) y.film_grain_present) (sym same) ∙ sym c.with_tiling-hdr.ensures)) in
     record { value = w.0; header_layout = w.1 }

@@ -15,10 +15,11 @@ use Rattle.getbits.proofs.Chain.{through, taken}
 use Rattle.seq_fields.specs.declared.AdaptiveBoolean.TheVariants.{Off, On, Adaptive}
 use Rattle.seq_picture.specs.declared.FrameSize.{FrameSize}
 use Rattle.seq_picture.specs.declared.Level.{Level}
-use Rattle.flat.specs.Layout.{Buffers, buffers, layout_in}
+use Rattle.flat.specs.Layout.{Buffers, buffers, has_room, put_layout, layout_in}
 use Rattle.flat.proofs.Room.{comes_back}
 use Rattle.tile_layout.specs.Layout.{parse_tile_info}
 use Rattle.tile_layout.specs.Limits.{no_tile_info}
+use Rattle.tile_layout.specs.declared.TileArgs.{TileArgs}
 use Rattle.tile_layout.specs.declared.TileInfo.{TileInfo}
 use Rattle.tile_info.specs.Into.{read_into, parse_tile_info_into}
 use Rattle.seq_hdr.specs.Tiling.{tiling_args, tile_info_if, read_tiling}
@@ -36,20 +37,12 @@ module _ (sb128 : ℕ) (size : FrameSize) (level : Level) (s : List ℕ) (p : Pl
   unfolding read_tiling flag_if tile_info_if
   with_layout_lem v f = through _ _ e ∙ rw v (through _ _ f ∙ through _ _ refl)
 
--- the buffers lent
-abbrev given : goal.Start → Buffers
-given s = buffers s.args.info.now s.args.cols.now s.args.rows.now
-
--- the lengths, read back from their bits
-width : (c : goal.After-next-2-1) → to_z w32 (of_z w32 c.args.size.max_width) ≡ c.args.size.max_width
-width c = search rules
-
-height : (c : goal.After-next-2-1) → to_z w32 (of_z w32 c.args.size.max_height) ≡ c.args.size.max_height
-height c = search rules
-
--- the zero layout stands in the buffers
-none : (s : goal.After-next-2-1) → layout_in (given s) ≡ no_tile_info
-none s = sym (ap layout_in s.requires.rows_value_2) ∙ comes_back no_tile_info (given s) refl refl s.requires.rows_value
+-- a layout that is read over the zero layout, which stands in the buffers
+over_none : (s : List ℕ) (p : Place) (args : TileArgs) (b : Buffers) → has_room b ≡ true → put_layout no_tile_info b ≡ b
+    → parse_tile_info_into s p b args ≡ read_into (parse_tile_info s p no_tile_info args) b
+unfolding parse_tile_info_into
+over_none s p args b h z =
+    taken _ _ _ h ∙ ap (λ (old : TileInfo). read_into (parse_tile_info s p old args) b) (sym (ap layout_in z) ∙ comes_back no_tile_info b refl refl h)
 
 pub returns-then-not-present : goal.returns-then-not-present
 returns-then-not-present c =
@@ -58,13 +51,15 @@ returns-then-not-present c =
     record { is = rw e refl; put = rw e (sym c.requires.rows_value_2); behind = refl }
 
 pub returns : goal.returns
-unfolding parse_tile_info_into
 returns c =
     let a = c.args in
     let q = c.get_flag-adaptive.result.next in
     let args = tiling_args a.sb128 a.size a.level in
-    let into = rw (width c, height c) at c.parse_tile_info_into-r.ensures.after_after in
-    tiling-into (parse_tile_info a.s.now q no_tile_info args) (given c) c.requires.rows_value
-    (into ∙ taken _ _ _ c.requires.rows_value ∙ ap (λ (old : TileInfo). read_into (parse_tile_info a.s.now q old args) (given c)) (none c))
-    c.cols-1.given c.rows-1.given c.adaptive_or-present.ensures
+    let b : Buffers = buffers a.info.now a.cols.now a.rows.now in
+    -- the lengths, read back from their bits
+    let width : to_z w32 (of_z w32 a.size.max_width) ≡ a.size.max_width = search rules in
+    let height : to_z w32 (of_z w32 a.size.max_height) ≡ a.size.max_height = search rules in
+    tiling-into (parse_tile_info a.s.now q no_tile_info args) b c.requires.rows_value
+    ((rw (width, height) at c.parse_tile_info_into-r.ensures.after_after) ∙ over_none a.s.now q args b c.requires.rows_value c.requires.rows_value_2)
+    c.parse_tile_info_into-r.auto.cols c.parse_tile_info_into-r.auto.rows c.adaptive_or-present.ensures
     (with_layout_lem a.sb128 a.size a.level a.s.now a.p c.get_flag-present.ensures (not-false _ c.if-not-present.false) c.get_flag-adaptive.ensures)
