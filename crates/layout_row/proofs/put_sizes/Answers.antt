@@ -1,4 +1,3 @@
-use Prim.Native.Nat.{◌-◌}
 use native.Mathlib.Omega.{arith}
 use Rattle.layout_row.proofs.Walk.{going_start, going_next, going_end}
 use Rattle.layout_row.proofs.put_sizes.Goals as goal

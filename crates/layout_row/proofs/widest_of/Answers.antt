@@ -1,5 +1,5 @@
 use mathlib.Core.Path.{ap, ◌∙◌}
-use Prim.Native.Nat.{◌-◌, max}
+use Prim.Native.Nat.{max}
 use Rattle.layout_row.proofs.Walk.{widest_start, widest_next, widest_end}
 use Rattle.layout_row.proofs.widest_of.Goals as goal
 
