@@ -15,11 +15,10 @@ use Rattle.getbits.specs.declared.Place.{Place}
 use Rattle.lent.proofs.Calls.{row, pair, triple}
 use Rattle.lent.specs.Calls.{answered, too_short}
 use Rattle.lent.specs.Lent.{place_of, lent_place}
-use Rattle.tile_info.specs.Into.{read_into, parse_tile_info_into}
+use Rattle.tile_info.specs.Into.{parse_tile_info_into}
 use Rattle.tile_info.specs.declared.TileOutcome.{TileOutcome}
 use Rattle.tile_layout.specs.Cleared.{Cleared, ReadOver}
 use Rattle.tile_layout.specs.Demand3.{Demand3, AcceptedLayout}
-use Rattle.tile_layout.specs.Layout.{parse_tile_info}
 use Rattle.tile_layout.specs.declared.TileArgs.{TileArgs}
 use Rattle.tile_layout.specs.declared.TileInfo.{TileInfo}
 use Rattle.tile_layout.specs.declared.TileRead.{TileRead}

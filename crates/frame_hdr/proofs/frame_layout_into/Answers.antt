@@ -98,8 +98,8 @@ reuse_allowed-allowed-requires-clause-log2_cols_bound c =
     (rw (to_z-of_z c.ranges.max_width, to_z-of_z c.ranges.max_height) at c.is_usable-usable.ensures)
     c.if-not-sized-usable.false in
     λ on.
-        let t = in_buffers q theirs their_room refl ((known q (frame_usable h q inside)).tiled on) in
-        ((usable_tiles_lem _ _ _ t.cols).small, (usable_tiles_lem _ _ _ t.rows).small)
+    let t = in_buffers q theirs their_room refl ((known q (frame_usable h q inside)).tiled on) in
+    ((usable_tiles_lem _ _ _ t.cols).small, (usable_tiles_lem _ _ _ t.rows).small)
 
 pub reused_layout-requires-clause-a_value : goal.reused_layout-requires-clause-a_value
 reused_layout-requires-clause-a_value c =
