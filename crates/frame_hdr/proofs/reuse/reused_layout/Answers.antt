@@ -1,8 +1,7 @@
 use mathlib.Core.Path.{◌≡◌, sym, ◌∙◌, ap}
-use Prim.Native.Nat.{ℕ, min, ◌≤◌}
+use Prim.Native.Nat.{ℕ, min}
 use native.Mathlib.Omega.{arith}
-use lib.ListN.{length}
-use Rattle.flat.specs.Layout.{Buffers, buffers, put_layout}
+use Rattle.flat.specs.Layout.{buffers, put_layout}
 use Rattle.flat.proofs.Room.{room, has_room_lem, put_over}
 use Rattle.tile_info.proofs.Into.{in_front}
 use Rattle.tile_layout.proofs.Domain.{domain, low_code, across, down}
