@@ -36,7 +36,7 @@ returns-then-not-has_room-clause-after_after c =
     let h = frame_in a.frame_type a.width a.height a.sb128 own in
     let q = seq_in a.seq_sb128 a.max_width a.max_height a.level a.tier a.present theirs in
     let lacks = sym c.has_room.ensures ∙ c.if-not-has_room.true in
-    rw c.unread.ensures (sym (left _ _ _ (first_fails (has_room own) (has_room theirs) lacks)))
+    sym (left _ _ _ (first_fails (has_room own) (has_room theirs) lacks))
 
 pub returns-then-not-has_room-2-clause-after_after : goal.returns-then-not-has_room-2-clause-after_after
 unfolding parse_tile_info_frmhdr_into
@@ -48,7 +48,7 @@ returns-then-not-has_room-2-clause-after_after c =
     let h = frame_in a.frame_type a.width a.height a.sb128 own in
     let q = seq_in a.seq_sb128 a.max_width a.max_height a.level a.tier a.present theirs in
     let lacks = sym c.has_room-2.ensures ∙ c.if-not-has_room-2.true in
-    rw c.unread-then-not-has_room-2.ensures (sym (left _ _ _ (second_fails (has_room own) (has_room theirs) lacks)))
+    sym (left _ _ _ (second_fails (has_room own) (has_room theirs) lacks))
 
 pub returns-then-not-sized-usable : goal.returns-then-not-sized-usable
 unfolding parse_tile_info_frmhdr_into parse_tile_info_frmhdr
@@ -66,7 +66,7 @@ returns-then-not-sized-usable c =
     (rw (to_z-of_z c.ranges.max_width, to_z-of_z c.ranges.max_height) at c.is_usable-usable.ensures)
     c.if-not-sized-usable.true in
     let w = what-is-left a.s.now a.p own theirs h q refl
-    (rw c.unread-then-not-sized-usable.ensures (sym (taken _ _ _ (both_hold own_room their_room) ∙ ap (λ (z : FrameRead). frame_into z own) (left _ _ _ inside)))) refl refl in
+    (rw c.unread.ensures (sym (taken _ _ _ (both_hold own_room their_room) ∙ ap (λ (z : FrameRead). frame_into z own) (left _ _ _ inside)))) refl refl in
     record { after_after = w.0; fact = w.1.0; fact_2 = w.1.1 }
 
 pub reuse_allowed-allowed-requires-clause-a_value : goal.reuse_allowed-allowed-requires-clause-a_value
@@ -98,8 +98,8 @@ reuse_allowed-allowed-requires-clause-log2_cols_bound c =
     (rw (to_z-of_z c.ranges.max_width, to_z-of_z c.ranges.max_height) at c.is_usable-usable.ensures)
     c.if-not-sized-usable.false in
     λ on.
-        let t = in_buffers q theirs their_room refl ((known q (frame_usable h q inside)).tiled on) in
-        ((usable_tiles_lem _ _ _ t.cols).small, (usable_tiles_lem _ _ _ t.rows).small)
+    let t = in_buffers q theirs their_room refl ((known q (frame_usable h q inside)).tiled on) in
+    ((usable_tiles_lem _ _ _ t.cols).small, (usable_tiles_lem _ _ _ t.rows).small)
 
 pub reused_layout-requires-clause-a_value : goal.reused_layout-requires-clause-a_value
 reused_layout-requires-clause-a_value c =

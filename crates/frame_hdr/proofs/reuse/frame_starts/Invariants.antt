@@ -5,6 +5,7 @@ use lib.ListN.{length, get_or, take, drop}
 use Rattle.tile_layout.specs.Layout.{tabulate, padded}
 use Rattle.superblocks.specs.Counts.{multiplier_of}
 use Rattle.frame_hdr.proofs.reuse.frame_starts.Given as goal
+
 abbrev pub invariant-loop-i : goal.invariant-loop-i
 invariant-loop-i l =
     (l.i ≤ l.tiles)
