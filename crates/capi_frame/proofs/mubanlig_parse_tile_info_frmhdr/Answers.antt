@@ -63,8 +63,8 @@ returns c =
       after_after = back ∙ sym (taken _ _ _ roomy ∙ taken _ _ _ known ∙ through _ _ refl);
       sb128_unchanged = code_kept z a.error.now a.sb128.now own back;
       info_unchanged = λ n. ap (λ (b : Buffers). b.bytes) (kept n);
-      col_start_sb_unchanged = λ n. ap (λ (b : Buffers). b.col_starts_lem) (kept n);
-      row_start_sb_unchanged = λ n. ap (λ (b : Buffers). b.row_starts_lem) (kept n);
+      col_start_sb_unchanged = λ n. ap (λ (b : Buffers). b.col_starts) (kept n);
+      row_start_sb_unchanged = λ n. ap (λ (b : Buffers). b.row_starts) (kept n);
       fact = λ _ _ d e. demand3_left _ _ _ c.number.ensures (λ _. refl) (promised.fresh d e);
       cleared = λ n. promised.over.cleared (accepted_by_0 c.frame_layout_into-r.result.answer (sym c.number.ensures ∙ n));
     }

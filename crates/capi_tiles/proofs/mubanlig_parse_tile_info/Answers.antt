@@ -28,8 +28,8 @@ returns c =
     record {
       after_after = back;
       info_unchanged = λ n. ap (λ (b : Buffers). b.bytes) (kept n);
-      col_start_sb_unchanged = λ n. ap (λ (b : Buffers). b.col_starts_lem) (kept n);
-      row_start_sb_unchanged = λ n. ap (λ (b : Buffers). b.row_starts_lem) (kept n);
+      col_start_sb_unchanged = λ n. ap (λ (b : Buffers). b.col_starts) (kept n);
+      row_start_sb_unchanged = λ n. ap (λ (b : Buffers). b.row_starts) (kept n);
       fact = λ has d. demand3_left _ _ _ number (λ _. refl) (demand has d);
       cleared = λ n. over.cleared (accepted_by_0 c.parse_tile_info_into-r.result.answer (sym number ∙ n));
     }

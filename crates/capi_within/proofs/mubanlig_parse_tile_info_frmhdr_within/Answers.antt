@@ -132,8 +132,8 @@ returns c =
       after_after = e;
       sb128_unchanged = code_kept x a.error.now a.sb128.now own back;
       info_unchanged = λ n. ap (λ (b : Buffers). b.bytes) (kept n);
-      col_start_sb_unchanged = λ n. ap (λ (b : Buffers). b.col_starts_lem) (kept n);
-      row_start_sb_unchanged = λ n. ap (λ (b : Buffers). b.row_starts_lem) (kept n);
+      col_start_sb_unchanged = λ n. ap (λ (b : Buffers). b.col_starts) (kept n);
+      row_start_sb_unchanged = λ n. ap (λ (b : Buffers). b.row_starts) (kept n);
       fact = λ _ _. limited_left (frame_tiles x) _ _ number info promise.limited;
       fact_2 = λ n. let k = accepted_by_0 x.answer (sym number ∙ n) in subst (FreshAccepted a.s.now place h q) (sym (info k)) (promise.accepted k);
       fact_3 = λ w. e ∙ on_wall a.s.now a.position.now a.error.now own theirs (is_known a.frame_type a.present) h q limit w;

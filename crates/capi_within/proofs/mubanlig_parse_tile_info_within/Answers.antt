@@ -76,8 +76,8 @@ returns c =
     record {
       after_after = e;
       info_unchanged = λ n. ap (λ (b : Buffers). b.bytes) (kept n);
-      col_start_sb_unchanged = λ n. ap (λ (b : Buffers). b.col_starts_lem) (kept n);
-      row_start_sb_unchanged = λ n. ap (λ (b : Buffers). b.row_starts_lem) (kept n);
+      col_start_sb_unchanged = λ n. ap (λ (b : Buffers). b.col_starts) (kept n);
+      row_start_sb_unchanged = λ n. ap (λ (b : Buffers). b.row_starts) (kept n);
       fact = λ _. limited_left x _ _ number info promise.limited;
       fact_2 = λ n. let h = accepted_by_0 x.answer (sym number ∙ n) in subst (AcceptedLayout a.s.now place asked) (sym (info h)) (promise.accepted h);
       fact_3 = λ w. e ∙ on_wall a.s.now a.position.now a.error.now given asked limit w;
