@@ -43,7 +43,7 @@ def declared(text):
     inside = False
     for line in text.split("\n"):
         m = re.match(r"(?:(?:unfoldable|abbrev|pub|data|record|opaque|private) )*(" + NAME + r") :(?: |$)", line)
-        if m and not re.match(r" tie\.| [^ ]*\.Tie\.", line[m.end(1) + 2:]):
+        if m and not re.match(r" (tie|goal)\.| [^ ]*\.Tie\.", line[m.end(1) + 2:]):
             yield m.group(1)
         if line and not line[0].isspace() and not line.startswith("--"):
             inside = re.match(r"(?:pub )?(?:data|record|module) .*where$", line) is not None

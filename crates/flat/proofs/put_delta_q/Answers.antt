@@ -13,8 +13,8 @@ given_length s = search rules
 pub returns-then-out-lt16 : goal.returns-then-out-lt16
 returns-then-out-lt16 c = kept 16 c.args.d.delta_q c.args.out.now c.if-out-lt16.true
 
-pub copy_deltas_requires : goal.copy_deltas_requires
-copy_deltas_requires c = (c.if-out-lt16.false, given_length (goal.at.copy_deltas_requires c).Start)
+pub copy_deltas-requires : goal.copy_deltas-requires
+copy_deltas-requires c = (c.if-out-lt16.false, given_length (goal.at.copy_deltas-requires c).Start)
 
 pub returns : goal.returns
 returns c =

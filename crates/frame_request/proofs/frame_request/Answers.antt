@@ -28,14 +28,14 @@ returns-then-is_refusal c =
     c.no_frame-then-is_refusal.ensures
     ∙ sym (taken _ _ _ (good) ∙ through _ _ c.request_header-q.ensures ∙ taken _ _ _ (sym c.is_refusal.ensures ∙ c.if-is_refusal.true))
 
-pub slice_bounds_parse_tile_info_frmhdr_count : goal.slice_bounds_parse_tile_info_frmhdr_count
-slice_bounds_parse_tile_info_frmhdr_count c =
+pub slice_bounds-parse_tile_info_frmhdr-count : goal.slice_bounds-parse_tile_info_frmhdr-count
+slice_bounds-parse_tile_info_frmhdr-count c =
     let good : is_frame_request c.args.s.now ≡ true = sym c.is_request.ensures ∙ c.if-not-is_request.false in
     let there : let s = c.args.s.now in (c.two_at-bits.result ≡ two_at s 0) × (frame_at s + 5 ≤ length s) = (c.two_at-bits.ensures.0, long c.args.s.now (good)) in
     omega (arith, (there).0, (there).1)
 
-pub slice_bounds_parse_tile_info_frmhdr_start : goal.slice_bounds_parse_tile_info_frmhdr_start
-slice_bounds_parse_tile_info_frmhdr_start c =
+pub slice_bounds-parse_tile_info_frmhdr-start : goal.slice_bounds-parse_tile_info_frmhdr-start
+slice_bounds-parse_tile_info_frmhdr-start c =
     let good : is_frame_request c.args.s.now ≡ true = sym c.is_request.ensures ∙ c.if-not-is_request.false in
     let there : let s = c.args.s.now in (c.two_at-bits.result ≡ two_at s 0) × (frame_at s + 5 ≤ length s) = (c.two_at-bits.ensures.0, long c.args.s.now (good)) in
     omega (arith, (there).0, (there).1)
@@ -55,7 +55,7 @@ returns c =
     ∙ ap (λ (x : FrameHeader). parse_tile_info_frmhdr (drop (frame_at s + 5) s) (place_at 0 false) x (seq_layout c.request_header-q.result.hdr)) g.ensures
     ∙ sym (taken _ _ _ (good) ∙ through _ _ c.request_header-q.ensures ∙ left _ _ _ (sym c.is_refusal.ensures ∙ c.if-is_refusal.false))
 
-pub request_header_q_requires : goal.request_header_q_requires
-request_header_q_requires c =
+pub request_header-q-requires : goal.request_header-q-requires
+request_header-q-requires c =
     let good : is_frame_request c.args.s.now ≡ true = sym c.is_request.ensures ∙ c.if-not-is_request.false in
     good

@@ -32,17 +32,17 @@ returns-then-max-le1 c =
     let a = c.args in
     (rw (code_few a.max a.v c.if-max-le1.true) (nothing a.row.now a.at), omega arith)
 
-pub overflow_sub_m : goal.overflow_sub_m
-overflow_sub_m c =
-    omega (arith, (lengths (goal.at.overflow_sub_m c).After-power).over)
+pub overflow_sub-m : goal.overflow_sub-m
+overflow_sub-m c =
+    omega (arith, (lengths (goal.at.overflow_sub-m c).After-power).over)
 
-pub overflow_sub_l : goal.overflow_sub_l
-overflow_sub_l c =
-    omega (arith, (lengths (goal.at.overflow_sub_l c).After-power).some)
+pub overflow_sub-l : goal.overflow_sub-l
+overflow_sub-l c =
+    omega (arith, (lengths (goal.at.overflow_sub-l c).After-power).some)
 
-pub put_bits_requires : goal.put_bits_requires
-put_bits_requires c =
-    let k = lengths (goal.at.put_bits_requires c).After-power in
+pub put_bits-requires : goal.put_bits-requires
+put_bits-requires c =
+    let k = lengths (goal.at.put_bits-requires c).After-power in
     (omega (arith, k.most, c.requires.0), omega (arith, k.most))
 
 pub returns-then-v-m : goal.returns-then-v-m
@@ -54,13 +54,13 @@ returns-then-v-m c =
       omega (arith, r.ends, length_bits (c.bit_length-l.result - 1) a.v, k.most),
     )
 
-pub overflow_add_v : goal.overflow_add_v
-overflow_add_v c =
+pub overflow_add-v : goal.overflow_add-v
+overflow_add-v c =
     omega (arith, c.power.ensures.2, c.requires.2)
 
-pub put_bits_requires_2 : goal.put_bits_requires_2
-put_bits_requires_2 c =
-    let k = lengths (goal.at.put_bits_requires_2 c).After-power in
+pub put_bits-requires-2 : goal.put_bits-requires-2
+put_bits-requires-2 c =
+    let k = lengths (goal.at.put_bits-requires-2 c).After-power in
     (omega (arith, k.most, c.requires.0), omega (arith, k.most))
 
 pub returns : goal.returns

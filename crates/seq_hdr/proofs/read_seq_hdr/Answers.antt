@@ -64,8 +64,8 @@ returns-then-not-has_room c =
     let lacks = sym c.has_room.ensures ∙ c.if-not-has_room.true in
     record { after_after = sym (left _ _ _ lacks); fact = λ h. contrary h lacks; fact_2 = λ h. contrary h lacks }
 
-pub clear_layout_requires : goal.clear_layout_requires
-clear_layout_requires c = sym c.has_room.ensures ∙ c.if-not-has_room.false
+pub clear_layout-requires : goal.clear_layout-requires
+clear_layout-requires c = sym c.has_room.ensures ∙ c.if-not-has_room.false
 
 pub returns-then-is_refusal : goal.returns-then-is_refusal
 returns-then-is_refusal c =
@@ -81,8 +81,8 @@ returns-then-is_refusal c =
     c.clear_layout.ensures in
     record { after_after = w.0; fact = w.1.0; fact_2 = w.1.1 }
 
-pub read_rest_rest_requires : goal.read_rest_rest_requires
-read_rest_rest_requires c =
+pub read_rest-rest-requires : goal.read_rest-rest-requires
+read_rest-rest-requires c =
     let a = c.args in
     let b : Buffers = buffers a.info.now a.cols.now a.rows.now in
     let has : has_room b ≡ true = sym c.has_room.ensures ∙ c.if-not-has_room.false in

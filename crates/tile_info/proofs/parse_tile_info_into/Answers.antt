@@ -20,8 +20,8 @@ returns-then-not-has_room c =
     let w = what-is-left a.s.now a.p b (args_of a.sbmul a.sb128 a.seq_sb128 a.w a.h a.level a.tier) (sym (left _ _ _ lacks)) refl refl in
     record { after_after = w.0; fact = w.1.0; fact_2 = w.1.1.0; fact_3 = w.1.1.1 }
 
-pub read_layout_requires : goal.read_layout_requires
-read_layout_requires c =
+pub read_layout-requires : goal.read_layout-requires
+read_layout-requires c =
     record { a_value = sym c.in_domain.ensures ∙ c.if-in_domain.true; rows_value = sym c.has_room.ensures ∙ c.if-not-has_room.false }
 
 pub returns-then-in_domain : goal.returns-then-in_domain

@@ -10,12 +10,12 @@ use Rattle.tile_request.specs.Layout.{starts_at}
 use Rattle.tile_request.proofs.starts_at.Invariants.{start}
 use Rattle.tile_request.proofs.starts_at.Goals as goal
 
-pub loop_k_init : goal.loop_k_init
+pub loop-k-init : goal.loop-k-init
 unfolding tabulate
-loop_k_init c = search rules
+loop-k-init c = search rules
 
-pub loop_k_preserved : goal.loop_k_preserved
-loop_k_preserved c =
+pub loop-k-preserved : goal.loop-k-preserved
+loop-k-preserved c =
     let a = c.args in
     let f = start a.s.now a.i in
     let k = c.loop-k.k in

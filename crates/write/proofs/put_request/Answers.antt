@@ -6,8 +6,8 @@ use Rattle.write.specs.Print.{request_text}
 use Rattle.write.proofs.Buffers.{front}
 use Rattle.write.proofs.put_request.Goals as goal
 
-pub slice_bounds_put_written_end : goal.slice_bounds_put_written_end
-slice_bounds_put_written_end c = sym (length-take-le _ _ (search rules))
+pub slice_bounds-put_written-end : goal.slice_bounds-put_written-end
+slice_bounds-put_written-end c = sym (length-take-le _ _ (search rules))
 
 pub returns : goal.returns
 unfolding request_text

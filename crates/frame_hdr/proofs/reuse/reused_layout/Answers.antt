@@ -13,15 +13,15 @@ use Rattle.frame_hdr.proofs.Into.{Held, held}
 use Rattle.frame_layout.proofs.Usable.{usable_tiles_lem}
 use Rattle.frame_hdr.proofs.reuse.reused_layout.Goals as goal
 
-pub reused_starts_requires : goal.reused_starts_requires
-reused_starts_requires c =
+pub reused_starts-requires : goal.reused_starts-requires
+reused_starts-requires c =
     let a = c.args in
     let code : min c.of-pair.result.frame_code 2 ≡ a.a.frame_code = omega (arith, c.of-pair.ensures.0, low_code _ (domain _ c.requires.a_value)) in
     let u = usable_tiles_lem _ _ _ c.requires.seq_cols_value in
     ((room (buffers a.info.now a.cols.now a.rows.now) c.requires.rows_value).cols, u.few, u.low, rw (c.frame_count-sbw.ensures, code) (across _ (domain _ c.requires.a_value)).most_all)
 
-pub reused_starts_requires_2 : goal.reused_starts_requires_2
-reused_starts_requires_2 c =
+pub reused_starts-requires-2 : goal.reused_starts-requires-2
+reused_starts-requires-2 c =
     let a = c.args in
     let code : min c.of-pair.result.frame_code 2 ≡ a.a.frame_code = omega (arith, c.of-pair.ensures.0, low_code _ (domain _ c.requires.a_value)) in
     let u = usable_tiles_lem _ _ _ c.requires.seq_rows_value in
