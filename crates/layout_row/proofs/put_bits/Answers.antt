@@ -19,10 +19,10 @@ put_bit-end-requires c =
     (omega (arith, c.loop-left.invariant.1.ends, e, c.requires.0, c.loop-left-test.true, c.loop-left.invariant.0), omega arith)
 
 pub loop-left-preserved : goal.loop-left-preserved
-loop-left-preserved c =(
-      omega (arith, c.loop-left.invariant.0),
-      rw (digits_more c.args.n c.args.v c.loop-left.left c.loop-left-test.true c.loop-left.invariant.0) (both c.loop-left.invariant.1 c.put_bit-end.ensures),
-    )
+loop-left-preserved c = (
+  omega (arith, c.loop-left.invariant.0),
+  rw (digits_more c.args.n c.args.v c.loop-left.left c.loop-left-test.true c.loop-left.invariant.0) (both c.loop-left.invariant.1 c.put_bit-end.ensures),
+)
 
 pub returns : goal.returns
 returns c =

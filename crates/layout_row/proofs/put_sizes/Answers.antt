@@ -6,11 +6,11 @@ pub loop-i-init : goal.loop-i-init
 loop-i-init c = going_start _ _ _ _ _ _
 
 pub put_uniform-end-requires : goal.put_uniform-end-requires
-put_uniform-end-requires c =(
-      omega (arith, c.loop-i.invariant.far, c.requires.0, c.loop-i-test.true),
-      omega (arith, c.size_number-z.ensures.0, c.loop-i.invariant.low, c.requires.1),
-      omega (arith, c.size_number-z.ensures.1, c.size_at-size.ensures.1),
-    )
+put_uniform-end-requires c = (
+  omega (arith, c.loop-i.invariant.far, c.requires.0, c.loop-i-test.true),
+  omega (arith, c.size_number-z.ensures.0, c.loop-i.invariant.low, c.requires.1),
+  omega (arith, c.size_number-z.ensures.1, c.size_at-size.ensures.1),
+)
 
 pub loop-i-preserved : goal.loop-i-preserved
 loop-i-preserved c =
