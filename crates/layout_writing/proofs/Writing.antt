@@ -1,6 +1,6 @@
 -- What write_tile_info promises holds. Assumes nothing.
 use mathlib.Core.Bool.{true, false}
-use mathlib.Core.List.{List, ◌++◌}
+use mathlib.Core.List.{List, [], ◌++◌}
 use mathlib.Core.Path.{◌≡◌, refl, sym, subst, ap, ◌∙◌}
 use Prim.Native.Nat.{ℕ, ◌+◌, ◌/◌, ◌%◌, ◌-◌, ◌^◌, ◌≤◌, ◌<◌}
 use native.Mathlib.Omega.{arith}
@@ -21,7 +21,8 @@ use Rattle.layout_bits.specs.Bits.{layout_bits}
 use Rattle.layout_bits.proofs.Layouts.{layout_code}
 use Rattle.layout_bits.proofs.Packed.{bytes_length, bytes_lt, small_layout}
 use Rattle.layout_writing.specs.declared.Written.{Written}
-use Rattle.layout_writing.specs.Write.{again, reads_as, refusal, written, write_tile_info}
+use Rattle.layout_writing.specs.Write.{again, fresh, reads_as, refusal, written, write_tile_info}
+use Rattle.layout_writing.specs.Called.{WritingOf}
 use Rattle.layout_writing.specs.Promises.{SomeBits, Bytes, ReadsAs, Writing}
 use Rattle.layout_writing.proofs.Same.{not_so}
 use Rattle.layout_writing.proofs.Reading.{domained, row_is, back, short, start, from_start, stands, some_bits, own}
@@ -115,8 +116,8 @@ module _ (a : TileArgs) (t : TileInfo) where
         picked (λ (w : Written × List ℕ). number_of w.0.answer ≡ 8 → ⊥) (leb size (length out)) (written bits out) (refusal ShortBuffer, out)
         (λ _ q. omega arith) (λ _ q. omega arith) (rw (asked b) at e)
 
-pub writing : (a : TileArgs) (t : TileInfo) (out : List ℕ) → Writing a t out (write_tile_info a t out).0 (write_tile_info a t out).1
-writing a t out =
+pub writing_of : (a : TileArgs) (t : TileInfo) (out : List ℕ) → WritingOf a t out (write_tile_info a t out).0 (write_tile_info a t out).1
+writing_of a t out =
     record {
       itself = λ ok.
           let w = accepted a t out ok in
@@ -146,7 +147,22 @@ writing a t out =
       enough = roomy a t out;
     }
 
+-- and of all calls
+pub writing : Writing
+writing =
+    record {
+      itself = λ a t out. (writing_of a t out).itself;
+      in_front = λ a t out s ok. (writing_of a t out).in_front ok s;
+      read_write = λ s p a out c. (writing_of a (fresh s p a).info out).read_write s p c refl;
+      refused_with_8 = λ a t out. (writing_of a t out).refused_with_8;
+      only_then = λ a t out. (writing_of a t out).only_then;
+      behind = λ a t out. (writing_of a t out).behind;
+      unwritten = λ a t out. (writing_of a t out).unwritten;
+      readable = λ a t. (writing_of a t []).readable;
+      enough = λ a t out. (writing_of a t out).enough;
+    }
+
 -- and of what a call leaves
 pub promised : (a : TileArgs) (t : TileInfo) (out : List ℕ) {w : Written} {after : List ℕ} → (w, after) ≡ write_tile_info a t out
-    → ((w, after) ≡ write_tile_info a t out) × Writing a t out w after
-promised a t out e = (e, subst (λ (x : Written × List ℕ). Writing a t out x.0 x.1) (sym e) (writing a t out))
+    → ((w, after) ≡ write_tile_info a t out) × WritingOf a t out w after
+promised a t out e = (e, subst (λ (x : Written × List ℕ). WritingOf a t out x.0 x.1) (sym e) (writing_of a t out))

@@ -49,7 +49,7 @@ unfolding Every answer_to table count_leading_zeros then turns bits_at position 
     rising has_rectangles each rectangles tile_rectangles
     word decimal_in decimal nexts row accepted_text tile_head_text tile_layout_text tile_read_text request_over tile_request
     bytes_of bits_of uniform_code ones_code logs_code sizes_code sides_code layout_bits same_list same_numbers same_layout reads_as write_tile_info
-computed = (refl, (refl, (refl, (refl, (refl, (refl, (refl, (refl, (refl, (refl, (refl, (refl, (refl, (refl, (refl, (refl, (refl, (refl, (refl, (refl, (refl, (refl, (refl, (refl, (refl, (refl, (refl, (refl, (refl, (refl, (refl, (refl, (refl, (refl, tt))))))))))))))))))))))))))))))))))
+computed = (refl, (refl, (refl, (refl, (refl, (refl, (refl, (refl, (refl, (refl, (refl, (refl, (refl, (refl, (refl, (refl, (refl, (refl, (refl, (refl, (refl, (refl, (refl, (refl, (refl, (refl, (refl, (refl, (refl, (refl, (refl, (refl, (refl, (refl, (refl, tt)))))))))))))))))))))))))))))))))))
 
 -- a row that is in the list is one of them
 among : (l : List Row) → Every l → (r : Row) → Memᴰ r l → Holds r

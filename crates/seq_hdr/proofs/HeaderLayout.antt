@@ -20,6 +20,7 @@ use Rattle.seq_hdr.specs.declared.SeqRead.{SeqRead}
 use Rattle.seq_hdr.specs.Tiling.{TilingRead, tile_info_if, read_tiling}
 use Rattle.seq_hdr.specs.Header.{refused_header, check_trailing_bits, read_head, with_tiling, parse_seq_hdr}
 use Rattle.seq_hdr.specs.HeaderLayout.{HasLayout, layout_place, layout_args, layout_call, HeaderLayout}
+use Rattle.seq_hdr.specs.HeaderTiling.{HeaderTiling}
 use Rattle.seq_hdr.proofs.Bounds.{head_in}
 use Rattle.seq_hdr.proofs.Cleared.{header_cleared}
 
@@ -91,9 +92,9 @@ by_test : (P : Type 0) (t : Bool) → (t ≡ true → P) → (t ≡ false → P)
 by_test P true f g = f refl
 by_test P false f g = g refl
 
-pub header_layout : (s : List ℕ) (p : Place) (strict : Bool)
-    → HeaderLayout s p (number_of (parse_seq_hdr s p strict).answer) (parse_seq_hdr s p strict).hdr.tiling.t
-header_layout s p strict =
+pub header_tiling : (s : List ℕ) (p : Place) (strict : Bool)
+    → HeaderTiling s p (number_of (parse_seq_hdr s p strict).answer) (parse_seq_hdr s p strict).hdr.tiling.t
+header_tiling s p strict =
     record {
       demand3 = λ has. demand_3 s (layout_place s p) no_tile_info (layout_args s p) (head_in s p has.0);
       refused_with_2 = λ has e. with_2 s p strict has e;
@@ -104,4 +105,18 @@ header_layout s p strict =
           (λ t. absurd (refused_and_not s p strict has t (accepted_by_0 (parse_seq_hdr s p strict).answer e)))
           (λ f. (behind s p strict has f).kept (accepted_by_0 (parse_seq_hdr s p strict).answer e));
       cleared = header_cleared s p strict;
+    }
+
+pub header_layout : (s : List ℕ) (p : Place) (strict : Bool) → HeaderLayout s p (parse_seq_hdr s p strict)
+header_layout s p strict =
+    let h = header_tiling s p strict in
+    record {
+      demand3 = h.demand3;
+      refused_with_2 = h.refused_with_2;
+      refused_only_then = h.refused_only_then;
+      layout = λ has e.
+          by_test ((parse_seq_hdr s p strict).hdr.tiling.t ≡ (layout_call s p).info) (is_refusal (layout_call s p).answer)
+          (λ t. absurd (refused_and_not s p strict has t e))
+          (λ f. (behind s p strict has f).kept e);
+      cleared = h.cleared;
     }

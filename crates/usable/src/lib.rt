@@ -1,3 +1,2 @@
 // No code: every accepted sequence header is usable for a frame.
 #![tactic(auto)]
-

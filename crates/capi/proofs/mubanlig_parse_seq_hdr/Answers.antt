@@ -1,7 +1,8 @@
 use mathlib.Core.Bool.{true}
 use mathlib.Core.List.{List}
 use mathlib.Core.Path.{◌≡◌, refl, sym, ap, ◌∙◌}
-use borrow.Author.Tests.{le-leb, lt-leb, not-true, not-false}
+use Prim.Native.Nat.{ℕ}
+use borrow.Author.Tests.{le-leb, lt-leb}
 use lib.Dec.{leb}
 use lib.IntN.{ℤ}
 use lib.ListN.{length}
@@ -10,7 +11,8 @@ use Rattle.answers.specs.declared.Answer.TheVariants.{ShortBuffer}
 use Rattle.getbits.specs.Bits.{settled}
 use Rattle.getbits.proofs.Chain.{through, taken, left, both_hold}
 use Rattle.getbits.specs.declared.Place.{Place}
-use Rattle.flat.specs.Layout.{Buffers, buffers, has_room}
+use Rattle.flat.specs.Layout.{Buffers, buffers, over_front, has_room, put_layout}
+use Rattle.flat_hdr.specs.Header.{flat_seq_hdr}
 use Rattle.capi.specs.Calls.{lent_header}
 use Rattle.lent.specs.Lent.{is_set, place_of}
 use Rattle.lent.specs.Calls.{answered}
@@ -22,51 +24,85 @@ use Rattle.lent.proofs.Calls.{row, triple, first_fails, second_fails}
 use Rattle.capi.proofs.Left.{never_5, header_read}
 use Rattle.capi.proofs.mubanlig_parse_seq_hdr.Goals as goal
 
--- the buffers lent, and the place
-abbrev given : goal.Start → Buffers
-given s = buffers s.args.info.now s.args.col-start-sb.now s.args.row-start-sb.now
+-- the header, its numbers and its layout, over buffers that have room
+abbrev Read : Type 0
+Read = HeaderOutcome × List ℤ × Buffers
 
-abbrev place : goal.Start → Place
-place s = place_of s.args.position.now s.args.error.now
+module _ (s : List ℕ) (position error strict : ℕ) (hdr : List ℤ) (b : Buffers) (has : has_room b ≡ true) where
+  abbrev read : Read
+  read =
+      let z = parse_seq_hdr s (place_of position error) (is_set strict) in
+      (record { answer = z.answer; next = z.next }, over_front 146 (flat_seq_hdr z.hdr) hdr, put_layout z.hdr.tiling.t b)
+
+  read_into : parse_seq_hdr_into s (place_of position error) (is_set strict) hdr b ≡ read
+  unfolding parse_seq_hdr_into
+  read_into = taken _ _ _ has ∙ through _ _ refl
+
+  lent_read : leb 146 (length hdr) ≡ true → (answered read.0.answer read.0.next error, read.1, read.2) ≡ lent_header s position error strict hdr b
+  unfolding lent_header
+  lent_read long = sym (taken _ _ _ (both_hold long has) ∙ through _ _ refl)
+
+  left_by : leb 146 (length hdr) ≡ true → {o : Read} {numbers : List ℕ} → o ≡ read → numbers ≡ answered o.0.answer o.0.next error
+      → (numbers, o.1, o.2) ≡ lent_header s position error strict hdr b
+  left_by long e r = triple r refl refl ∙ ap (λ (y : Read). (answered y.0.answer y.0.next error, y.1, y.2)) e ∙ lent_read long
 
 pub returns-then-hdr-lt146 : goal.returns-then-hdr-lt146
 unfolding lent_header
 returns-then-hdr-lt146 c =
-    let fails = first_fails _ (has_room (given c)) (lt-leb 146 (length c.args.hdr.now) c.if-hdr-lt146.true) in
-    record { after_after = triple (row ShortBuffer (settled c.args.s.now (place c)) c.args.error.now refl c.settle_place.ensures) refl refl ∙ sym (left _ _ _ fails); hdr_unchanged = λ _. refl; info_unchanged = λ _. refl; col_start_sb_unchanged = λ _. refl; row_start_sb_unchanged = λ _. refl; hdr_after = λ _ h. never_5 h; info_after = λ _ h. never_5 h; col_start_sb_after = λ _ h. never_5 h; row_start_sb_after = λ _ h. never_5 h; fact = λ h. absurd (h refl) }
+    let b : Buffers = buffers c.args.info.now c.args.col_start_sb.now c.args.row_start_sb.now in
+    let fails = first_fails _ (has_room b) (lt-leb 146 (length c.args.hdr.now) c.if-hdr-lt146.true) in
+    record {
+      after_after = triple (row ShortBuffer (settled c.args.s.now (place_of c.args.position.now c.args.error.now)) c.args.error.now refl c.settle_place.ensures) refl refl ∙ sym (left _ _ _ fails);
+      hdr_unchanged = λ _. refl;
+      info_unchanged = λ _. refl;
+      col_start_sb_unchanged = λ _. refl;
+      row_start_sb_unchanged = λ _. refl;
+      hdr_after = λ _ h. never_5 h;
+      info_after = λ _ h. never_5 h;
+      col_start_sb_after = λ _ h. never_5 h;
+      row_start_sb_after = λ _ h. never_5 h;
+      fact = λ h. absurd (h refl);
+    }
 
 pub returns-then-not-has_room : goal.returns-then-not-has_room
 unfolding lent_header
 returns-then-not-has_room c =
-    let lacks = sym c.has_room.ensures ∙ not-true c.has_room.result c.if-not-has_room.true in
+    let lacks = sym c.has_room.ensures ∙ c.if-not-has_room.true in
     let fails = second_fails (leb 146 (length c.args.hdr.now)) _ lacks in
-    record { after_after = triple (row ShortBuffer (settled c.args.s.now (place c)) c.args.error.now refl c.settle_place-then-not-has_room.ensures) refl refl ∙ sym (left _ _ _ fails); hdr_unchanged = λ _. refl; info_unchanged = λ _. refl; col_start_sb_unchanged = λ _. refl; row_start_sb_unchanged = λ _. refl; hdr_after = λ _ h. never_5 h; info_after = λ _ h. never_5 h; col_start_sb_after = λ _ h. never_5 h; row_start_sb_after = λ _ h. never_5 h; fact = λ h. absurd (h refl) }
+    record {
+      after_after = triple (row ShortBuffer (settled c.args.s.now (place_of c.args.position.now c.args.error.now)) c.args.error.now refl c.settle_place-then-not-has_room.ensures) refl refl ∙ sym (left _ _ _ fails);
+      hdr_unchanged = λ _. refl;
+      info_unchanged = λ _. refl;
+      col_start_sb_unchanged = λ _. refl;
+      row_start_sb_unchanged = λ _. refl;
+      hdr_after = λ _ h. never_5 h;
+      info_after = λ _ h. never_5 h;
+      col_start_sb_after = λ _ h. never_5 h;
+      row_start_sb_after = λ _ h. never_5 h;
+      fact = λ h. absurd (h refl);
+    }
 
 pub returns : goal.returns
-unfolding lent_header parse_seq_hdr_into
 returns c =
     let a = c.args in
     let x = c.read_seq_hdr-r.result in
-    let z = parse_seq_hdr a.s.now (place c) (is_set a.strict) in
-    let has : has_room (given c) ≡ true = sym c.has_room.ensures ∙ not-false c.has_room.result c.if-not-has_room.false in
-    let into = rw (c.place_of-p.ensures, c.is_set.ensures) at c.read_seq_hdr-r.ensures in
-    let read = into.0 ∙ taken _ _ _ has ∙ through _ _ refl in
-    let number = c.number.ensures ∙ ap (λ (y : HeaderOutcome × List ℤ × Buffers). number_of y.0.answer) read in
+    let b : Buffers = buffers a.info.now a.col_start_sb.now a.row_start_sb.now in
+    let p : Place = place_of a.position.now a.error.now in
+    let z = parse_seq_hdr a.s.now p (is_set a.strict) in
+    let has : has_room b ≡ true = sym c.has_room.ensures ∙ c.if-not-has_room.false in
     let long = le-leb 146 (length a.hdr.now) c.if-hdr-lt146.false in
-    let w = header_read z c.number.result a.hdr.now (given c) number (header_refused a.s.now (place c) (is_set a.strict)) long has
-    (ap (λ (y : HeaderOutcome × List ℤ × Buffers). y.1) read) (ap (λ (y : HeaderOutcome × List ℤ × Buffers). y.2) read) in
-    record { after_after = triple (row x.answer x.next a.error.now c.number.ensures c.put_place.ensures) refl refl
-          ∙ ap (λ (y : HeaderOutcome × List ℤ × Buffers). (answered y.0.answer y.0.next a.error.now, y.1, y.2)) read
-          ∙ sym (taken _ _ _ (both_hold long has) ∙ through _ _ refl); hdr_unchanged = λ e. absurd (w.not_5 e); info_unchanged = λ e. absurd (w.not_5 e); col_start_sb_unchanged = λ e. absurd (w.not_5 e); row_start_sb_unchanged = λ e. absurd (w.not_5 e); hdr_after = λ e _. w.numbers e; info_after = λ e _. w.bytes e; col_start_sb_after = λ e _. w.col_starts_lem e; row_start_sb_after = λ e _. w.row_starts_lem e; fact = λ _. rw c.number.ensures (into.1.1 has) }
-
-pub shape_of-hdr : goal.shape_of-hdr
-shape_of-hdr c = c.hdr-1.given
-
-pub shape_of-info : goal.shape_of-info
-shape_of-info c = c.info-1.given
-
-pub shape_of-col_start_sb : goal.shape_of-col_start_sb
-shape_of-col_start_sb c = c.col_start_sb-1.given
-
-pub shape_of-row_start_sb : goal.shape_of-row_start_sb
-shape_of-row_start_sb c = c.row_start_sb-1.given
+    let e = (rw (c.place_of-p.ensures, c.is_set.ensures) at c.read_seq_hdr-r.ensures.after_after) ∙ read_into a.s.now a.position.now a.error.now a.strict a.hdr.now b has in
+    let number = c.number.ensures ∙ ap (λ (y : Read). number_of y.0.answer) e in
+    let w = header_read z c.number.result a.hdr.now b number (header_refused a.s.now p (is_set a.strict)) long has (ap (λ (y : Read). y.1) e) (ap (λ (y : Read). y.2) e) in
+    record {
+      after_after = left_by a.s.now a.position.now a.error.now a.strict a.hdr.now b has long e (row x.answer x.next a.error.now c.number.ensures c.put_place.ensures);
+      hdr_unchanged = λ e. absurd (w.not_5 e);
+      info_unchanged = λ e. absurd (w.not_5 e);
+      col_start_sb_unchanged = λ e. absurd (w.not_5 e);
+      row_start_sb_unchanged = λ e. absurd (w.not_5 e);
+      hdr_after = λ e _. w.numbers e;
+      info_after = λ e _. w.bytes e;
+      col_start_sb_after = λ e _. w.col_starts_lem e;
+      row_start_sb_after = λ e _. w.row_starts_lem e;
+      fact = λ _. rw c.number.ensures (rw c.place_of-p.ensures at (c.read_seq_hdr-r.ensures.fact_2 has));
+    }

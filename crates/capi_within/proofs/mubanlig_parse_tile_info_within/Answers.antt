@@ -1,15 +1,16 @@
 use mathlib.Core.Bool.{true}
+use mathlib.Core.List.{List}
 use mathlib.Core.Path.{◌≡◌, refl, sym, ap, subst, ◌∙◌}
-use borrow.Author.Tests.{not-true, not-false}
+use Prim.Native.Nat.{ℕ}
 use mir.Facts.{to_z-of_z}
 use Rattle.answers.proofs.Numbers.{accepted_by_0}
 use Rattle.answers.specs.declared.Answer.TheVariants.{ShortBuffer}
 use Rattle.getbits.proofs.Chain.{contrary, through, taken}
-use Rattle.getbits.specs.declared.Place.{Place}
 use Rattle.lent.specs.Lent.{place_of}
 use Rattle.tile_layout.specs.Demand3.{AcceptedLayout}
 use Rattle.tile_layout.specs.Limits.{args_of}
 use Rattle.tile_layout.specs.declared.TileArgs.{TileArgs}
+use Rattle.tile_layout.specs.declared.TileRead.{TileRead}
 use Rattle.flat.specs.Layout.{Buffers, buffers, has_room, layout_in}
 use Rattle.lent_tiles.specs.Calls.{handed_tiles, lent_tiles, lent_tile_info}
 use Rattle.lent_tiles.proofs.Left.{tiles_short, tiles_number, tiles_kept, cleared_left}
@@ -21,58 +22,64 @@ use Rattle.capi_within.specs.Calls.{limit_given, lent_tile_info_within}
 use Rattle.capi_within.proofs.Left.{limited_left, tiles_alike}
 use Rattle.capi_within.proofs.mubanlig_parse_tile_info_within.Goals as goal
 
--- the buffers lent, the place and the arguments
-abbrev given : goal.Start → Buffers
-given s = buffers s.args.info.now s.args.col-start-sb.now s.args.row-start-sb.now
+module _ (s : List ℕ) (position error : ℕ) (b : Buffers) (a : TileArgs) (m : TileLimit) where
+  -- with the wall's limit the definition is the wall's
+  on_wall : m ≡ wall → lent_tile_info_within s position error b a m ≡ lent_tile_info s position error b a
+  on_wall e = tiles_alike _ _ s position error b ((limited_tiles s (place_of position error) (layout_in b) a m).as_on_wall e)
 
-abbrev place : goal.Start → Place
-place s = place_of s.args.position.now s.args.error.now
+  -- what the definition says, once the layout is read
+  meaning : (r : TileRead) → has_room b ≡ true → r ≡ parse_tile_info_within s (place_of position error) (layout_in b) a m
+      → lent_tile_info_within s position error b a m ≡ handed_tiles r error b
+  unfolding lent_tiles
+  meaning r has e = taken _ _ _ has ∙ through _ _ e
 
-abbrev asked : goal.Start → TileArgs
-asked s = args_of s.args.sbmul s.args.sb128 s.args.seq-sb128 s.args.w s.args.h s.args.level s.args.tier
-
-abbrev limit : goal.Start → TileLimit
-limit s = limit_given s.args.max_cols s.args.max_rows
-
-abbrev start : goal.After-parse_tile_info_within-r → goal.Start
-start k = k.before.before.before.before.before.before.before.before.before.before.before.before.before.before.before.before.before
-
--- what the definition says, once the layout is read
-meaning : (k : goal.After-parse_tile_info_within-r)
-    → lent_tile_info_within (start k).args.s.now (start k).args.position.now (start k).args.error.now (given (start k)) (asked (start k)) (limit (start k))
-    ≡ handed_tiles k.parse_tile_info_within-r.result (start k).args.error.now (given (start k))
-unfolding lent_tiles
-meaning k = taken _ _ _ (has k) ∙ through _ _ (read k)
-
-has : (k : goal.After-slice_known-6-1) → has_room (given (start k)) ≡ true
-has k =
-    sym k.has_room.ensures ∙ not-false k.has_room.result k.if-not-has_room.false
-
-read : (k : goal.After-slice_known-6-1) → k.parse_tile_info_within-r.result ≡ parse_tile_info_within (start k).args.s.now (place (start k)) (layout_in (given (start k))) (asked (start k)) (limit (start k))
-read k =
-    let s = start k in
-    rw (to_z-of_z s.fits.sbmul, to_z-of_z s.fits.w, to_z-of_z s.fits.h, k.place_of-p.ensures, k.tile_info_of-thdr.ensures) at k.parse_tile_info_within-r.ensures.value
-
-promised : (k : goal.After-slice_known-6-1) → LimitedTiles (start k).args.s.now (place (start k)) (layout_in (given (start k))) (asked (start k)) (limit (start k)) k.parse_tile_info_within-r.result
-promised k =
-    let s = start k in
-    subst (LimitedTiles s.args.s.now (place s) (layout_in (given s)) (asked s) (limit s)) (sym (read k))
-    (limited_tiles s.args.s.now (place s) (layout_in (given s)) (asked s) (limit s))
+  promised : (r : TileRead) → r ≡ parse_tile_info_within s (place_of position error) (layout_in b) a m → LimitedTiles s (place_of position error) (layout_in b) a m r
+  promised r e = subst (LimitedTiles s (place_of position error) (layout_in b) a m) (sym e) (limited_tiles s (place_of position error) (layout_in b) a m)
 
 pub returns-then-not-has_room : goal.returns-then-not-has_room
 returns-then-not-has_room c =
-    let on_wall : limit c ≡ wall → lent_tile_info_within c.args.s.now c.args.position.now c.args.error.now (given c) (asked c) (limit c) ≡ lent_tile_info c.args.s.now c.args.position.now c.args.error.now (given c) (asked c) = λ e. tiles_alike _ _ c.args.s.now c.args.position.now c.args.error.now (given c) ((limited_tiles c.args.s.now (place c) (layout_in (given c)) (asked c) (limit c)).as_on_wall e) in
-    let lacks = sym c.has_room.ensures ∙ not-true c.has_room.result c.if-not-has_room.true in
-    let e = tiles_short c.args.s.now c.args.position.now c.args.error.now c.settle_place.ensures _ (given c) lacks in
-    record { after_after = e; info_unchanged = λ _. refl; col_start_sb_unchanged = λ _. refl; row_start_sb_unchanged = λ _. refl; fact = λ h. contrary h lacks; fact_2 = λ h. contrary refl (accepted_by_0 ShortBuffer h); fact_3 = λ w. e ∙ on_wall w; cleared = λ h. contrary refl (accepted_by_0 ShortBuffer h) }
+    let a = c.args in
+    let given = buffers a.info.now a.col_start_sb.now a.row_start_sb.now in
+    let asked = args_of a.sbmul a.sb128 a.seq_sb128 a.w a.h a.level a.tier in
+    let lacks = sym c.has_room.ensures ∙ c.if-not-has_room.true in
+    let e = tiles_short a.s.now a.position.now a.error.now c.settle_place.ensures _ given lacks in
+    record {
+      after_after = e;
+      info_unchanged = λ _. refl;
+      col_start_sb_unchanged = λ _. refl;
+      row_start_sb_unchanged = λ _. refl;
+      fact = λ h. contrary h lacks;
+      fact_2 = λ h. contrary refl (accepted_by_0 ShortBuffer h);
+      fact_3 = λ w. e ∙ on_wall a.s.now a.position.now a.error.now given asked (limit_given a.max_cols a.max_rows) w;
+      cleared = λ h. contrary refl (accepted_by_0 ShortBuffer h);
+    }
 
 pub returns : goal.returns
 returns c =
-    let on_wall : limit c ≡ wall → lent_tile_info_within c.args.s.now c.args.position.now c.args.error.now (given c) (asked c) (limit c) ≡ lent_tile_info c.args.s.now c.args.position.now c.args.error.now (given c) (asked c) = λ e. tiles_alike _ _ c.args.s.now c.args.position.now c.args.error.now (given c) ((limited_tiles c.args.s.now (place c) (layout_in (given c)) (asked c) (limit c)).as_on_wall e) in
-    let s = start c in
+    let a = c.args in
+    let f = c.ranges in
+    -- the buffers lent, the place, the arguments and the limit
+    let given = buffers a.info.now a.col_start_sb.now a.row_start_sb.now in
+    let place = place_of a.position.now a.error.now in
+    let asked = args_of a.sbmul a.sb128 a.seq_sb128 a.w a.h a.level a.tier in
+    let limit = limit_given a.max_cols a.max_rows in
+    let has : has_room given ≡ true = sym c.has_room.ensures ∙ c.if-not-has_room.false in
     let x = c.parse_tile_info_within-r.result in
-    let back = c.hand_back_tiles.ensures in
-    let number = tiles_number x s.args.error.now (given s) back.0 in
-    let kept = tiles_kept x s.args.error.now (given s) back.0 in
-    let e = back.0 ∙ sym (meaning c) in
-    record { after_after = e; info_unchanged = λ n. ap (λ (b : Buffers). b.bytes) (kept n); col_start_sb_unchanged = λ n. ap (λ (b : Buffers). b.col_starts_lem) (kept n); row_start_sb_unchanged = λ n. ap (λ (b : Buffers). b.row_starts_lem) (kept n); fact = λ _. limited_left x _ _ number (back.1 (has c)) (promised c).limited; fact_2 = λ n. let h = accepted_by_0 x.answer (sym number ∙ n) in subst (AcceptedLayout s.args.s.now (place s) (asked s)) (sym (back.1 (has c) h)) ((promised c).accepted h); fact_3 = λ w. e ∙ on_wall s w; cleared = cleared_left x _ _ number (back.1 (has c)) (promised c).over }
+    let read : x ≡ parse_tile_info_within a.s.now place (layout_in given) asked limit =
+    rw (to_z-of_z f.sbmul, to_z-of_z f.w, to_z-of_z f.h, c.place_of-p.ensures, c.tile_info_of-thdr.ensures) at c.parse_tile_info_within-r.ensures.value in
+    let promise = promised a.s.now a.position.now a.error.now given asked limit x read in
+    let back = c.hand_back_tiles.ensures.after_after in
+    let info = c.hand_back_tiles.ensures.fact has in
+    let number = tiles_number x a.error.now given back in
+    let kept = tiles_kept x a.error.now given back in
+    let e = back ∙ sym (meaning a.s.now a.position.now a.error.now given asked limit x has read) in
+    record {
+      after_after = e;
+      info_unchanged = λ n. ap (λ (b : Buffers). b.bytes) (kept n);
+      col_start_sb_unchanged = λ n. ap (λ (b : Buffers). b.col_starts_lem) (kept n);
+      row_start_sb_unchanged = λ n. ap (λ (b : Buffers). b.row_starts_lem) (kept n);
+      fact = λ _. limited_left x _ _ number info promise.limited;
+      fact_2 = λ n. let h = accepted_by_0 x.answer (sym number ∙ n) in subst (AcceptedLayout a.s.now place asked) (sym (info h)) (promise.accepted h);
+      fact_3 = λ w. e ∙ on_wall a.s.now a.position.now a.error.now given asked limit w;
+      cleared = cleared_left x _ _ number info promise.over;
+    }

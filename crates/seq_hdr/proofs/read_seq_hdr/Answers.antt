@@ -20,10 +20,10 @@ use Rattle.tile_layout.specs.declared.TileInfo.{TileInfo}
 use Rattle.seq_hdr.specs.declared.HeaderOutcome.{HeaderOutcome}
 use Rattle.seq_hdr.specs.declared.SeqRead.{SeqRead}
 use Rattle.seq_hdr.specs.Header.{refused_header, with_tiling, parse_seq_hdr}
-use Rattle.seq_hdr.specs.HeaderLayout.{HeaderLayout}
+use Rattle.seq_hdr.specs.HeaderTiling.{HeaderTiling}
 use Rattle.seq_hdr.specs.Into.{parse_seq_hdr_into}
 use Rattle.seq_hdr.specs.Tiling.{read_tiling}
-use Rattle.seq_hdr.proofs.HeaderLayout.{header_layout}
+use Rattle.seq_hdr.proofs.HeaderLayout.{header_tiling}
 use Rattle.seq_hdr.proofs.Into.{room-still, goes_over, head_ends, as_refused, head_goes_on}
 use Rattle.seq_hdr.proofs.read_seq_hdr.Goals as goal
 
@@ -32,7 +32,7 @@ module _ (s : List ℕ) (p : Place) (strict : Bool) (out : List ℤ) (b : Buffer
   abbrev Left : HeaderOutcome → List ℤ → Buffers → Type 0
   Left r out' after =
       ((r, out', after) ≡ parse_seq_hdr_into s p strict out b)
-      × ((has_room b ≡ true → layout_in after ≡ (parse_seq_hdr s p strict).hdr.tiling.t) × (has_room b ≡ true → HeaderLayout s p (number_of r.answer) (layout_in after)))
+      × ((has_room b ≡ true → layout_in after ≡ (parse_seq_hdr s p strict).hdr.tiling.t) × (has_room b ≡ true → HeaderTiling s p (number_of r.answer) (layout_in after)))
 
   whole : (z : SeqRead) {out' : List ℤ} {after : Buffers} → length after.col_starts_lem ≡ length b.col_starts_lem → length after.row_starts_lem ≡ length b.row_starts_lem
       → parse_seq_hdr s p strict ≡ z → out' ≡ over_front 146 (flat_seq_hdr z.hdr) out → after ≡ put_layout z.hdr.tiling.t b
@@ -45,8 +45,8 @@ module _ (s : List ℕ) (p : Place) (strict : Bool) (out : List ℤ) (b : Buffer
             ∙ sym (taken _ _ _ has ∙ through _ _ refl),
         (
           λ _. back ∙ ap (λ (x : SeqRead). x.hdr.tiling.t) (sym e),
-          λ _. subst (HeaderLayout s p (number_of z.answer)) (sym back)
-              (subst (λ (x : SeqRead). HeaderLayout s p (number_of x.answer) x.hdr.tiling.t) e (header_layout s p strict)),
+          λ _. subst (HeaderTiling s p (number_of z.answer)) (sym back)
+              (subst (λ (x : SeqRead). HeaderTiling s p (number_of x.answer) x.hdr.tiling.t) e (header_tiling s p strict)),
         ),
       )
 
@@ -62,7 +62,7 @@ pub returns-then-not-has_room : goal.returns-then-not-has_room
 unfolding parse_seq_hdr_into
 returns-then-not-has_room c =
     let lacks = sym c.has_room.ensures ∙ c.if-not-has_room.true in
-    record { after_after = rw c.too_short.ensures (sym (left _ _ _ lacks)); fact = λ h. contrary h lacks; fact_2 = λ h. contrary h lacks }
+    record { after_after = sym (left _ _ _ lacks); fact = λ h. contrary h lacks; fact_2 = λ h. contrary h lacks }
 
 pub clear_layout-requires : goal.clear_layout-requires
 clear_layout-requires c = sym c.has_room.ensures ∙ c.if-not-has_room.false
@@ -76,9 +76,9 @@ returns-then-is_refusal c =
     let x = r.result in
     let refusal : is_refusal x.answer ≡ true = sym c.is_refusal.ensures ∙ c.if-is_refusal.true in
     let w = zeros a.s.now a.p a.strict a.out.now b has x.answer x.next c.clear_layout.auto.cols c.clear_layout.auto.rows
-        (head_ends a.s.now a.p a.strict r.ensures.is refusal ∙ as_refused a.s.now a.p a.strict r.ensures.is refusal)
-        (c.put_zeros.ensures ∙ r.ensures.numbers.behind (replicate 146 (pos 0)))
-        c.clear_layout.ensures in
+    (head_ends a.s.now a.p a.strict r.ensures.is refusal ∙ as_refused a.s.now a.p a.strict r.ensures.is refusal)
+    (c.put_zeros.ensures ∙ r.ensures.numbers.behind (replicate 146 (pos 0)))
+    c.clear_layout.ensures in
     record { after_after = w.0; fact = w.1.0; fact_2 = w.1.1 }
 
 pub read_rest-rest-requires : goal.read_rest-rest-requires
@@ -100,10 +100,10 @@ returns-then-is_refusal-2 c =
     let k = c.read_rest-rest in
     let refusal = sym c.is_refusal-2.ensures ∙ c.if-is_refusal-2.true in
     let w = zeros a.s.now a.p a.strict a.out.now b has k.result.answer k.result.next
-        (k.auto.cols ∙ c.clear_layout.auto.cols) (k.auto.rows ∙ c.clear_layout.auto.rows)
-        (head_goes_on a.s.now a.p a.strict r.ensures.is (sym c.is_refusal.ensures ∙ c.if-is_refusal.false) ∙ k.ensures.0 r.result.hdr ∙ taken _ _ _ refusal)
-        (c.put_zeros-then-is_refusal-2.ensures ∙ r.ensures.numbers.behind (replicate 146 (pos 0)))
-        (k.ensures.1 ∙ taken _ _ _ refusal ∙ c.clear_layout.ensures) in
+    (k.auto.cols ∙ c.clear_layout.auto.cols) (k.auto.rows ∙ c.clear_layout.auto.rows)
+    (head_goes_on a.s.now a.p a.strict r.ensures.is (sym c.is_refusal.ensures ∙ c.if-is_refusal.false) ∙ k.ensures.0 r.result.hdr ∙ taken _ _ _ refusal)
+    (c.put_zeros-then-is_refusal-2.ensures ∙ r.ensures.numbers.behind (replicate 146 (pos 0)))
+    (k.ensures.1 ∙ taken _ _ _ refusal ∙ c.clear_layout.ensures) in
     record { after_after = w.0; fact = w.1.0; fact_2 = w.1.1 }
 
 pub returns : goal.returns
@@ -124,7 +124,7 @@ returns c =
     let t : TileInfo = (read_tiling x.hdr.blocks.partition.sb128 x.hdr.picture.size x.hdr.level a.s.now x.next).fields.t in
     let z : SeqRead = record { answer = y.answer; hdr = with_tiling x.hdr (record { present = y.present; t = t }) y.film_grain_present; next = y.next } in
     let w = whole a.s.now a.p a.strict a.out.now b has z (k.auto.cols ∙ cols) (k.auto.rows ∙ rows)
-        (head_goes_on a.s.now a.p a.strict r.ensures.is accepted ∙ k.ensures.0 x.hdr ∙ left _ _ _ fine)
-        (all_put (and_then (r.ensures.numbers.stands accepted) c.put_last.ensures (omega arith)))
-        (k.ensures.1 ∙ left _ _ _ fine ∙ goes_over no_tile_info b _ has c.clear_layout.ensures cols rows t) in
+    (head_goes_on a.s.now a.p a.strict r.ensures.is accepted ∙ k.ensures.0 x.hdr ∙ left _ _ _ fine)
+    (all_put (and_then (r.ensures.numbers.stands accepted) c.put_last.ensures (omega arith)))
+    (k.ensures.1 ∙ left _ _ _ fine ∙ goes_over no_tile_info b _ has c.clear_layout.ensures cols rows t) in
     record { after_after = w.0; fact = w.1.0; fact_2 = w.1.1 }

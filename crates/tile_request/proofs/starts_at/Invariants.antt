@@ -4,6 +4,7 @@ use Prim.Native.Nat.{ℕ, ◌+◌, ◌-◌, ◌*◌, ◌≤◌}
 use Rattle.program.specs.Input.{two_at}
 use Rattle.tile_layout.specs.Layout.{tabulate, padded}
 use Rattle.tile_request.proofs.starts_at.Given as goal
+
 -- the k-th start
 abbrev pub start : List ℕ → ℕ → ℕ → ℕ
 start s i k = two_at s (i + 2 * k)

@@ -1,9 +1,9 @@
 use mathlib.Core.List.{List}
 use mathlib.Core.Path.{◌≡◌, ap, ◌∙◌}
-use Prim.Native.Nat.{ℕ, suc, ◌+◌, ◌-◌, ◌<◌}
+use Prim.Native.Nat.{ℕ, suc, ◌+◌, ◌<◌}
 use native.Mathlib.Omega.{arith}
 use lib.ListN.{length, get_or, set}
-use lib.Seq.{paste, paste-zero, paste-suc, length-paste}
+use lib.Seq.{paste, paste-zero, paste-suc}
 use Rattle.tile_write.proofs.put_bytes.Goals as goal
 
 one_more : (out bytes : List ℕ) (i : ℕ) → i < length out → i < length bytes → set (paste out 0 bytes i) i (get_or bytes i 0) ≡ paste out 0 bytes (i + 1)

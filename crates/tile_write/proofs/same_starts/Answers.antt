@@ -1,6 +1,5 @@
 use mathlib.Core.Logic.{⊎_elim}
 use mathlib.Core.Path.{◌≡◌, sym}
-use Prim.Native.Nat.{◌-◌}
 use native.Mathlib.Omega.{arith}
 use Rattle.getbits.proofs.Places.{lt_or_le}
 use Rattle.layout_writing.proofs.Same.{starts_differ, starts_same}

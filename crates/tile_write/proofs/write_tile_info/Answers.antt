@@ -1,12 +1,12 @@
-use mathlib.Core.Bool.{true}
+use mathlib.Core.Bool.{true, false}
 use mathlib.Core.List.{List, ◌++◌}
 use mathlib.Core.Path.{◌≡◌, sym, ap, ap₂, ◌∙◌}
 use Prim.Native.Nat.{ℕ, ◌+◌, ◌/◌, ◌≤◌, ◌<◌}
 use native.Mathlib.Omega.{arith}
-use borrow.Author.Tests.{le-leb, lt-leb, not-true, not-false}
+use borrow.Author.Tests.{le-leb, lt-leb}
 use mir.Facts.{to_z-of_z}
 use lib.ListN.{length, take, drop}
-use Rattle.answers.specs.declared.Answer.TheVariants.{Accepted}
+use Rattle.answers.specs.declared.Answer.TheVariants.{Accepted, WrongArguments, ShortBuffer, NoSuchLayout}
 use Rattle.getbits.proofs.Chain.{taken, left}
 use Rattle.tile_layout.specs.declared.TileArgs.{TileArgs}
 use Rattle.tile_layout.specs.declared.TileInfo.{TileInfo}
@@ -18,128 +18,133 @@ use Rattle.layout_bits.specs.Bits.{layout_bits}
 use Rattle.layout_bits.proofs.Packed.{bytes_length, bytes_take}
 use Rattle.layout_row.specs.Row.{row_of}
 use Rattle.layout_writing.specs.declared.Written.{Written}
-use Rattle.layout_writing.specs.Write.{fresh, again, reads_as, write_tile_info}
+use Rattle.layout_writing.specs.Write.{again, reads_as, refusal, write_tile_info}
+use Rattle.layout_writing.specs.Called.{WritingOf}
 use Rattle.layout_writing.specs.Promises.{SomeBits}
 use Rattle.layout_writing.proofs.Reading.{start, some_bits, short}
 use Rattle.layout_writing.proofs.Writing.{promised}
 use Rattle.tile_write.proofs.Row.{row_known, asked}
 use Rattle.tile_write.proofs.write_tile_info.Goals as goal
+use Rattle.tile_write.proofs.write_tile_info.Goals.{After-reads_as}
 
-abbrev given : goal.Start → TileArgs
-given s =
-    let a = s.args in
-    args_of a.sbmul a.sb128 a.«seq-sb128» a.w a.h a.level a.tier
+-- what a call leaves, as the contract names it
+told : (a : TileArgs) (t : TileInfo) (o : List ℕ) {w : Written} {after : List ℕ} → (w, after) ≡ write_tile_info a t o
+    → record { out_after : (w, after) ≡ write_tile_info a t o; writing : WritingOf a t o w after }
+told a t o e =
+    let w = promised a t o e in
+    record { out_after = w.0; writing = w.1 }
 
-abbrev begin : goal.After-in_domain → goal.Start
-begin c = c.before.before.before
+-- behind the questions: the arguments are in the domain, and the row of bits is read as its own bits, padded, are
+record Row (a : TileArgs) (t : TileInfo) (bits : ℕ) (bytes : List ℕ) (r : TileRead) : Type 0 where
+  in_it : in_domain a ≡ true
+  question : reads_as r t ≡ reads_as (again a t) t
+  long : bits ≡ length (row_of a t)
+  made : bytes ≡ bytes_of 177 (row_of a t)
 
--- behind the question about the domain
-abbrev row_made : goal.After-reads_as → goal.After-layout_row-row
-row_made c = c.before.before.before.before.before
+abbrev given : After-reads_as → TileArgs
+given c =
+    let a = c.args in
+    args_of a.sbmul a.sb128 a.seq_sb128 a.w a.h a.level a.tier
 
-abbrev asked-domain : goal.After-reads_as → goal.After-in_domain
-asked-domain c = (row_made c).before.before
-
-module _ (c : goal.After-reads_as) where
-  abbrev s : goal.Start
-  s = begin (asked-domain c)
-
-  in_it : in_domain (given s) ≡ true
-  in_it = sym (domain_asked (asked-domain c)) ∙ not-false _ (row_made c).before.if1.false
-
-  -- the row of bits, and what it reads as
-  bytes : (row_made c).Layout-row.result.bytes ≡ bytes_of 177 (row_of (given s) s.args.t)
-  bytes = (row_made c).Layout-row.ensures.1 ∙ ap (λ (a : TileArgs). bytes_of 177 (row_of a s.args.t)) (made (asked-domain c))
-
-  read : c.parse_tile_info-r.result ≡ fresh (bytes_of 177 (row_of (given s) s.args.t)) start (given s)
-  read =
-      let f = s.fits in
-      (rw (to_z-of_z f.sbmul, to_z-of_z f.w, to_z-of_z f.h) at c.parse_tile_info-r.ensures.value)
-      ∙ ap₂ (λ (x : List ℕ) (old : TileInfo). parse_tile_info x start old (given s)) bytes c.no_tile_info.ensures
-
-  question : c.reads_as.result ≡ reads_as (again (given s) s.args.t) s.args.t
-  question = c.reads_as.ensures ∙ ap (λ (r : TileRead). reads_as r s.args.t) read ∙ asked (given s) s.args.t
+read_row : (c : After-reads_as) → Row (given c) c.args.t c.layout_row-row.result.bits c.layout_row-row.result.bytes c.parse_tile_info-r.result
+read_row c =
+    let f = c.ranges in
+    let t = c.args.t in
+    let is : c.tile_args-a.result ≡ given c = rw (to_z-of_z f.sbmul, to_z-of_z f.w, to_z-of_z f.h) at c.tile_args-a.ensures in
+    let bytes : c.layout_row-row.result.bytes ≡ bytes_of 177 (row_of (given c) t) = c.layout_row-row.ensures.1 ∙ ap (λ (a : TileArgs). bytes_of 177 (row_of a t)) is in
+    let read = rw (to_z-of_z f.sbmul, to_z-of_z f.w, to_z-of_z f.h) at c.parse_tile_info-r.ensures.value
+    ∙ ap₂ (λ (x : List ℕ) (old : TileInfo). parse_tile_info x start old (given c)) bytes c.no_tile_info.ensures in
+    record {
+      in_it = sym (c.in_domain.ensures ∙ ap in_domain is) ∙ c.if-not-in_domain.false;
+      question = ap (λ (r : TileRead). reads_as r t) read ∙ asked (given c) t;
+      long = c.layout_row-row.ensures.0 ∙ ap (λ (a : TileArgs). length (row_of a t)) is;
+      made = bytes;
+    }
 
 -- the record can be read
-module _ (k : goal.Else-not-reads_as) where
-  abbrev a : TileArgs
-  a = given (s k)
-
-  abbrev t : TileInfo
-  t = (s k).args.t
-
+module _ (a : TileArgs) (t : TileInfo) (bits : ℕ) (bytes : List ℕ) (r : TileRead) (k : Row a t bits bytes r) (reads : reads_as r t ≡ true) where
   good : reads_as (again a t) t ≡ true
-  good = sym (question k) ∙ not-false _ k.if-not-reads_as.left
+  good = sym k.question ∙ reads
 
   some : SomeBits a t
   some = some_bits a t _ start good
 
-  bits : (row_made k).Layout-row.result.bits ≡ length (layout_bits a t)
-  bits =
-      (row_made k).Layout-row.ensures.0
-      ∙ ap (λ (x : TileArgs). length (row_of x t)) (made (asked-domain k))
-      ∙ ap length (row_known a t some)
+  its_bits : bits ≡ length (layout_bits a t)
+  its_bits = k.long ∙ ap length (row_known a t some)
 
-abbrev asked-room : goal.After-bytes-3-1 → goal.Else-out-n
-asked-room c = c.before.before
+  its_bytes : bytes ≡ bytes_of 177 (layout_bits a t)
+  its_bytes = k.made ∙ ap (bytes_of 177) (row_known a t some)
 
-made : (c : goal.After-refused) → c.tile_args-a.result ≡ given (begin c)
-made c =
-    let f = (begin c).ranges in
-    rw (to_z-of_z f.sbmul, to_z-of_z f.w, to_z-of_z f.h) at c.tile_args-a.ensures
+  few : bits ≤ 1409
+  few = rw its_bits (short a t some)
 
-domain_asked : (c : goal.After-refused) → c.in_domain.result ≡ in_domain (given (begin c))
-domain_asked c = c.in_domain.ensures ∙ ap in_domain (made c)
+  all_bytes : length bytes ≡ 177
+  all_bytes = ap length k.made ∙ bytes_length 177 (row_of a t)
+
+  -- a buffer without room, and one with room
+  module _ (o : List ℕ) where
+    abbrev row : List ℕ
+    row = layout_bits a t
+
+    no_room : (w : Written) → w ≡ refusal ShortBuffer → length o < (bits + 7) / 8 → (w, o) ≡ write_tile_info a t o
+    unfolding write_tile_info
+    no_room w e h =
+        ap (λ (w : Written). (w, o)) e
+        ∙ sym (taken _ _ _ k.in_it ∙ taken _ _ _ good ∙ left _ _ _ (lt-leb (byte_count row) (length o) (rw its_bits at h)))
+
+    put : (after : List ℕ) → after ≡ take ((bits + 7) / 8) bytes ++ drop ((bits + 7) / 8) o → (bits + 7) / 8 ≤ length o
+        → (record { answer = Accepted; bits = bits }, after) ≡ write_tile_info a t o
+    unfolding write_tile_info
+    put after e h =
+        let out = e
+        ∙ ap₂ (λ (m : ℕ) (y : List ℕ). take ((m + 7) / 8) y ++ drop ((m + 7) / 8) o) its_bits its_bytes
+        ∙ ap (λ (y : List ℕ). y ++ drop (byte_count row) o) (bytes_take (byte_count row) 177 row (omega (arith, its_bits, few))) in
+        ap₂ (λ (m : ℕ) (y : List ℕ). (record { answer = Accepted; bits = m }, y)) its_bits out
+        ∙ sym (taken _ _ _ k.in_it ∙ taken _ _ _ good ∙ taken _ _ _ (le-leb (byte_count row) (length o) (rw its_bits at h)))
+
+-- the two refusals before
+module _ (a : TileArgs) (t : TileInfo) (o : List ℕ) (w : Written) where
+  outside : w ≡ refusal WrongArguments → in_domain a ≡ false → (w, o) ≡ write_tile_info a t o
+  unfolding write_tile_info
+  outside e d = ap (λ (w : Written). (w, o)) e ∙ sym (left _ _ _ d)
+
+  unread : w ≡ refusal NoSuchLayout → in_domain a ≡ true → reads_as (again a t) t ≡ false → (w, o) ≡ write_tile_info a t o
+  unfolding write_tile_info
+  unread e d n = ap (λ (w : Written). (w, o)) e ∙ sym (taken _ _ _ d ∙ left _ _ _ n)
 
 pub returns-then-not-in_domain : goal.returns-then-not-in_domain
-unfolding write_tile_info
 returns-then-not-in_domain c =
-    let b = begin c in
-    let w = promised (given b) b.args.t b.args.out.now
-    (ap (λ (w : Written). (w, b.args.out.now)) c.refused.ensures ∙ sym (left _ _ _ (sym (domain_asked c) ∙ not-true _ c.if-not-in_domain.true))) in
-    record { out_after = w.0; writing = w.1 }
+    let f = c.ranges in
+    let x = c.args in
+    let a = args_of x.sbmul x.sb128 x.seq_sb128 x.w x.h x.level x.tier in
+    let is : c.tile_args-a.result ≡ a = rw (to_z-of_z f.sbmul, to_z-of_z f.w, to_z-of_z f.h) at c.tile_args-a.ensures in
+    let out_of_it : in_domain a ≡ false = rw is at (sym c.in_domain.ensures ∙ c.if-not-in_domain.true) in
+    told a x.t x.out.now (outside a x.t x.out.now c.refused.result c.refused.ensures out_of_it)
 
 pub returns-then-not-reads_as : goal.returns-then-not-reads_as
-unfolding write_tile_info
 returns-then-not-reads_as c =
-    let w = promised (given (s c)) (s c).args.t (s c).args.out.now
-    (ap (λ (w : Written). (w, (s c).args.out.now)) c.refused-then-not-reads_as.ensures
-    ∙ sym (taken _ _ _ (in_it c) ∙ left _ _ _ (sym (question c) ∙ not-true _ c.if-not-reads_as.true))) in
-    record { out_after = w.0; writing = w.1 }
+    let p = (goal.at.returns-then-not-reads_as c).After-reads_as in
+    let k = read_row p in
+    let no : reads_as (again (given p) c.args.t) c.args.t ≡ false = sym (c.reads_as.ensures ∙ k.question) ∙ c.if-not-reads_as.true in
+    told _ _ _ (unread (given p) c.args.t c.args.out.now c.refused-then-not-reads_as.result c.refused-then-not-reads_as.ensures k.in_it no)
 
 pub overflow_add-n : goal.overflow_add-n
-overflow_add-n k = omega (arith, bits k, short (a k) (t k) (some k))
+overflow_add-n c =
+    let k = read_row (goal.at.overflow_add-n c).After-reads_as in
+    omega (arith, few _ _ _ _ _ k (sym c.reads_as.ensures ∙ c.if-not-reads_as.false))
 
 pub returns-then-out-n : goal.returns-then-out-n
-unfolding write_tile_info
 returns-then-out-n c =
-    let o = (s c).args.out.now in
-    let n : length o < byte_count (layout_bits (a c) (t c)) = rw (bits c) at c.if-out-n.true in
-    let w = promised (a c) (t c) o
-    (ap (λ (w : Written). (w, o)) c.refused-then-out-n.ensures
-    ∙ sym (taken _ _ _ (in_it c) ∙ taken _ _ _ (good c) ∙ left _ _ _ (lt-leb (byte_count (layout_bits (a c) (t c))) (length o) n))) in
-    record { out_after = w.0; writing = w.1 }
-
-pub slice_bounds-put_bytes-end : goal.slice_bounds-put_bytes-end
-slice_bounds-put_bytes-end c = let k = (asked-room c).before in sym (ap length (bytes k.before) ∙ bytes_length 177 (row_of (a k) (t k)))
+    let k = read_row (goal.at.returns-then-out-n c).After-reads_as in
+    told _ _ _ (no_room _ _ _ _ _ k (sym c.reads_as.ensures ∙ c.if-not-reads_as.false) c.args.out.now c.refused-then-out-n.result c.refused-then-out-n.ensures c.if-out-n.true)
 
 pub put_bytes-requires : goal.put_bytes-requires
 put_bytes-requires c =
-    let k = (asked-room c).before in
-    ((asked-room c).if3.false, omega (arith, bits k, short (a k) (t k) (some k), ap length (bytes k.before), bytes_length 177 (row_of (a k) (t k))))
+    let k = read_row (goal.at.put_bytes-requires c).After-reads_as in
+    let reads = sym c.reads_as.ensures ∙ c.if-not-reads_as.false in
+    (c.if-out-n.false, omega (arith, few _ _ _ _ _ k reads, all_bytes _ _ _ _ _ k reads))
 
 pub returns : goal.returns
-unfolding write_tile_info
 returns c =
-    let k = (asked-room c).before in
-    let row = layout_bits (a k) (t k) in
-    let o = (s k.before).args.out.now in
-    let n : byte_count row ≤ length o = omega (arith, bits k, (asked-room c).if3.false) in
-    let x = bytes k.before ∙ ap (bytes_of 177) (row_known (a k) (t k) (some k)) in
-    let out = c.put_bytes.ensures
-    ∙ ap₂ (λ (m : ℕ) (y : List ℕ). take ((m + 7) / 8) y ++ drop ((m + 7) / 8) o) (bits k) x
-    ∙ ap (λ (y : List ℕ). y ++ drop (byte_count row) o) (bytes_take (byte_count row) 177 row (omega (arith, short (a k) (t k) (some k)))) in
-    let w = promised (a k) (t k) o
-    (ap₂ (λ (m : ℕ) (y : List ℕ). (record { answer = Accepted; bits = m }, y)) (bits k) out
-    ∙ sym (taken _ _ _ (in_it k.before) ∙ taken _ _ _ (good k) ∙ taken _ _ _ (le-leb (byte_count row) (length o) n))) in
-    record { out_after = w.0; writing = w.1 }
+    let k = read_row (goal.at.returns c).After-reads_as in
+    told _ _ _ (put _ _ _ _ _ k (sym c.reads_as.ensures ∙ c.if-not-reads_as.false) c.args.out.now c.put_bytes.new.out c.put_bytes.ensures c.if-out-n.false)
