@@ -15,6 +15,8 @@ import sys
 NAME = r"[\w'\-]+"
 # Lemmas whose names definitions take.
 LEMMAS = {"four_bytes": "getbits/proofs/Fields.antt", "has_room": "flat/proofs/Room.antt", "num_pos": "film_grain/proofs/Numbers.antt", "place_at": "getbits/proofs/Places.antt", "too_short": "flat_hdr/proofs/Rows.antt"}
+# Fields and variables that a definition shares its name with.
+SHARED = {"col-starts": "col_starts", "row-starts": "row_starts", "num-points": "num_points", "frame-within": "frame_within"}
 KEEP = {"and-true", "or-true"}  # the library has these too
 MADE = re.compile(r"returns|(?:Need|Else|Then|After|At|In|Lts|Tie)-|-spec$")
 
@@ -67,7 +69,7 @@ def main():
     taken = kept | set(camel.values())
     for name, new in dashed.items():
         if new in taken:
-            dashed[name] = new + "_lem"
+            dashed[name] = SHARED.get(name, new + "_lem")
     changed = 0
     for path in list(files("crates", (".antt", ".rt", ".edit"))) + [p for p in list(files("docs", (".md",))) + ["README.md"] if os.path.isfile(p)]:
         old = text = read(path)

@@ -26,7 +26,7 @@ zero_header : {hdr : SequenceHeader} (out : List ℤ) → leb 146 (length out) �
 zero_header out room e = taken _ _ _ room ∙ rw (e, zero_numbers)
 
 zero_layout : {hdr : SequenceHeader} (b : Buffers) → has_room b ≡ true → hdr ≡ no_seq_hdr
-    → put_layout hdr.tiling.t b ≡ buffers (replicate 9 0 ++ drop 9 b.bytes) (replicate 65 0 ++ drop 65 b.col_starts_lem) (replicate 65 0 ++ drop 65 b.row_starts_lem)
+    → put_layout hdr.tiling.t b ≡ buffers (replicate 9 0 ++ drop 9 b.bytes) (replicate 65 0 ++ drop 65 b.col_starts) (replicate 65 0 ++ drop 65 b.row_starts)
 unfolding put_layout
 zero_layout b room e = taken _ _ _ room ∙ rw e
 
@@ -34,8 +34,8 @@ pub record HeaderRead (n : ℕ) (out out' : List ℤ) (b b' : Buffers) : Type 0 
   pub not_5 : n ≡ 5 → ⊥
   pub numbers : 1 ≤ n → out' ≡ replicate 146 (pos 0) ++ drop 146 out
   pub bytes : 1 ≤ n → b'.bytes ≡ replicate 9 0 ++ drop 9 b.bytes
-  pub col_starts_lem : 1 ≤ n → b'.col_starts_lem ≡ replicate 65 0 ++ drop 65 b.col_starts_lem
-  pub row_starts_lem : 1 ≤ n → b'.row_starts_lem ≡ replicate 65 0 ++ drop 65 b.row_starts_lem
+  pub col_starts : 1 ≤ n → b'.col_starts ≡ replicate 65 0 ++ drop 65 b.col_starts
+  pub row_starts : 1 ≤ n → b'.row_starts ≡ replicate 65 0 ++ drop 65 b.row_starts
 
 pub header_read : (z : SeqRead) (n : ℕ) (out : List ℤ) {out' : List ℤ} (b : Buffers) {b' : Buffers} → n ≡ number_of z.answer → Refused z
     → leb 146 (length out) ≡ true → has_room b ≡ true → out' ≡ over_front 146 (flat_seq_hdr z.hdr) out → b' ≡ put_layout z.hdr.tiling.t b
@@ -47,6 +47,6 @@ header_read z n out b number r long room e f =
       not_5 = λ k. omega (arith, r.most_3);
       numbers = λ h. e ∙ zero_header out long (zero h);
       bytes = λ h. ap (λ (x : Buffers). x.bytes) (layout h);
-      col_starts_lem = λ h. ap (λ (x : Buffers). x.col_starts_lem) (layout h);
-      row_starts_lem = λ h. ap (λ (x : Buffers). x.row_starts_lem) (layout h);
+      col_starts = λ h. ap (λ (x : Buffers). x.col_starts) (layout h);
+      row_starts = λ h. ap (λ (x : Buffers). x.row_starts) (layout h);
     }

@@ -39,10 +39,10 @@ limited_left z n b number info {m} l =
     }
 
 -- two readings that answer alike leave the same
-pub tiles_alike : (read read' : Place → TileInfo → TileRead) (s : List ℕ) (position error : ℕ) (b : Buffers)
-    → read (place_of position error) (layout_in b) ≡ read' (place_of position error) (layout_in b) → lent_tiles read s position error b ≡ lent_tiles read' s position error b
+pub tiles_alike : (read read' : Place → TileInfo → TileRead) (position error : ℕ) (b : Buffers)
+    → read (place_of position error) (layout_in b) ≡ read' (place_of position error) (layout_in b) → lent_tiles read position error b ≡ lent_tiles read' position error b
 unfolding lent_tiles then
-tiles_alike read read' s position error b e = ap (λ (r : TileRead). pick (has_room b) (handed_tiles r error b) (too_short s position error, b)) e
+tiles_alike read read' position error b e = ap (λ (r : TileRead). pick (has_room b) (handed_tiles r error b) (too_short position error, b)) e
 
 pub frames_alike : (read read' : Place → FrameRead) (s : List ℕ) (position error code : ℕ) (b seq : Buffers) (known : Bool)
     → read (place_of position error) ≡ read' (place_of position error) → lent_frames read s position error code b seq known ≡ lent_frames read' s position error code b seq known
@@ -50,4 +50,4 @@ unfolding lent_frames then
 frames_alike read read' s position error code b seq known e =
     ap (λ (r : FrameRead). pick (has_room b && has_room seq)
     (pick known (handed_frame r error code b) (answered WrongArguments (settled s (place_of position error)) error, code, b))
-    (too_short s position error, code, b)) e
+    (too_short position error, code, b)) e

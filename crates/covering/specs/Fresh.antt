@@ -42,7 +42,7 @@ pub record FreshCovers : Type 0 where
   pub frame : (s : List ℕ) (p : Place) (h : FrameHeader) (q : SeqLayout) → (read_reuse s p (frame_args h q) q).value ≡ false → FrameCovers (parse_tile_info_frmhdr s p h q)
   -- both within a limit
   pub layout_within : (s : List ℕ) (p : Place) (old : TileInfo) (a : TileArgs) (m : TileLimit) → LayoutCovers a (parse_tile_info_within s p old a m)
-  pub frame_within_lem : (s : List ℕ) (p : Place) (h : FrameHeader) (q : SeqLayout) (m : TileLimit) → (read_reuse s p (frame_args h q) q).value ≡ false
+  pub frame_within : (s : List ℕ) (p : Place) (h : FrameHeader) (q : SeqLayout) (m : TileLimit) → (read_reuse s p (frame_args h q) q).value ≡ false
       → FrameCovers (parse_tile_info_frmhdr_within s p h q m)
   -- parse_seq_hdr
   pub header : (s : List ℕ) (p : Place) (strict : Bool) → HeaderCovers (parse_seq_hdr s p strict)

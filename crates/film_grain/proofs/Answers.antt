@@ -24,7 +24,7 @@ kept P a f h = h a
 -- a record that is accepted behind the lists l
 pub record AcceptedWith (l : PointLists) (r : FilmGrainRead) : Type 0 where
   pub accepted : r.answer ≡ Accepted
-  pub num_points_lem : r.fgd.num_points ≡ l.num_points
+  pub num_points : r.fgd.num_points ≡ l.num_points
   pub points : r.fgd.points ≡ l.points
 
 module _ (P : FilmGrainRead → Type 0) (refused : (q : Place) → P (refused_grain q)) where
@@ -41,7 +41,7 @@ module _ (P : FilmGrainRead → Type 0) (refused : (q : Place) → P (refused_gr
       kept P _ _ λ clip.
       kept P _ _ λ identity.
       kept P _ _ λ block.
-      picked P block.next.error (refused_grain block.next) _ (λ _. refused block.next) (λ _. h _ (record { accepted = refl; num_points_lem = refl; points = refl }))
+      picked P block.next.error (refused_grain block.next) _ (λ _. refused block.next) (λ _. h _ (record { accepted = refl; num_points = refl; points = refl }))
 
   behind_lists : (chroma : Bool) (s : List ℕ) (p : Place) (layout : PixelLayout) (from-luma : Bool)
       → ((l : PointLists) → l ≡ point_lists chroma s p → l.refused ≡ false → (r : FilmGrainRead) → AcceptedWith l r → P r)

@@ -157,9 +157,9 @@ module _ (chroma : Bool) (s : List ℕ) (p : Place) (whole : (point_lists chroma
       let k = neither y.refused (u.refused || v.refused) whole in
       let l = neither u.refused v.refused k.1 in
       record {
-        luma = rw (a.num_points_lem, a.points) (plane_if true s p k.0);
-        chroma_u = rw (a.num_points_lem, a.points) (plane_if (chroma && not y.refused) s y.next l.0);
-        chroma_v = rw (a.num_points_lem, a.points) (plane_if (chroma && not (y.refused || u.refused)) s u.next l.1);
+        luma = rw (a.num_points, a.points) (plane_if true s p k.0);
+        chroma_u = rw (a.num_points, a.points) (plane_if (chroma && not y.refused) s y.next l.0);
+        chroma_v = rw (a.num_points, a.points) (plane_if (chroma && not (y.refused || u.refused)) s u.next l.1);
       }
 
 -- the point lists of every reading are what the request says

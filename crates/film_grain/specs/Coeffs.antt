@@ -50,13 +50,13 @@ num_pos lag = 2 * lag * (lag + 1)
 -- the coefficients of the planes: luma's if it has points; a chroma plane's if it has points or is scaled from luma, and one more of them if
 -- luma has points
 unfoldable pub plane_coeffs : Bool → List ℕ → ℕ → List ℕ → Place → CoeffLists
-plane_coeffs from-luma num_points_lem lag s p =
-    then (has_points (get_or num_points_lem 0 0)) λ luma.
+plane_coeffs from-luma num_points lag s p =
+    then (has_points (get_or num_points 0 0)) λ luma.
     then (num_pos lag) λ n.
     then (n + bit_of luma) λ chroma-n.
     then (coeffs_if luma s p n) λ y.
-    then (coeffs_if (has_points (get_or num_points_lem 1 0) || from-luma) s y.next chroma-n) λ u.
-    then (coeffs_if (has_points (get_or num_points_lem 2 0) || from-luma) s u.next chroma-n) λ v.
+    then (coeffs_if (has_points (get_or num_points 1 0) || from-luma) s y.next chroma-n) λ u.
+    then (coeffs_if (has_points (get_or num_points 2 0) || from-luma) s u.next chroma-n) λ v.
     record { ar_coeffs = y.list ∷ u.list ∷ v.list ∷ []; next = v.next }
 
 -- the offsets of a chroma plane under a condition: else zeros, and the place as it was
@@ -70,9 +70,9 @@ offsets_if false s p = record { mult = pos 0; luma_mult = pos 0; offset = pos 0;
 
 -- the offsets of the chroma planes that have points
 unfoldable pub chroma_offsets : List ℕ → List ℕ → Place → ChromaOffsets
-chroma_offsets num_points_lem s p =
-    then (offsets_if (has_points (get_or num_points_lem 1 0)) s p) λ u.
-    then (offsets_if (has_points (get_or num_points_lem 2 0)) s u.next) λ v.
+chroma_offsets num_points s p =
+    then (offsets_if (has_points (get_or num_points 1 0)) s p) λ u.
+    then (offsets_if (has_points (get_or num_points 2 0)) s u.next) λ v.
     record {
       uv_mult = u.mult ∷ v.mult ∷ [];
       uv_luma_mult = u.luma_mult ∷ v.luma_mult ∷ [];

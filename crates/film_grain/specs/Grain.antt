@@ -46,9 +46,9 @@ is_i420 I444 = false
 
 -- I420 only: is one chroma list empty and the other not?
 abbrev pub one_list_empty : PixelLayout → List ℕ → Bool
-one_list_empty layout num_points_lem =
-    let u = has_points (get_or num_points_lem 1 0) in
-    let v = has_points (get_or num_points_lem 2 0) in
+one_list_empty layout num_points =
+    let u = has_points (get_or num_points 1 0) in
+    let v = has_points (get_or num_points 2 0) in
     is_i420 layout && ((u && not v) || (not u && v))
 
 -- the fields behind the point lists; a reader error at the end is refused, also one that was set before

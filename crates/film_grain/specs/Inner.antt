@@ -38,13 +38,13 @@ coeff_lists y u v = record { coeffs = y } ∷ record { coeffs = u } ∷ record {
 
 -- the record of lists and of the fields behind them, out of its parts; refused where the reader's error is set
 abbrev pub grain_read : Bool → List ℕ → List PlanePoints → List PlaneCoeffs → GrainFields → FilmGrainRead
-grain_read from-luma num_points_lem points ar-coeffs f =
+grain_read from-luma num_points points ar-coeffs f =
     pick f.next.error (refused_grain f.next)
     (record {
       answer = Accepted;
       fgd = record {
         chroma_scaling_from_luma = from-luma;
-        num_points = num_points_lem;
+        num_points = num_points;
         points = points;
         scaling_shift = f.scaling_shift;
         ar_coeff_lag = f.ar_coeff_lag;

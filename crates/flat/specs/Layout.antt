@@ -13,15 +13,15 @@ over_front n xs out = pick (leb n (length out)) (xs ++ drop n out) out
 -- the three buffers of a layout: its bytes, the starts of its columns and those of its rows
 pub record Buffers : Type 0 where
   pub bytes : List ℕ
-  pub col_starts_lem : List ℕ
-  pub row_starts_lem : List ℕ
+  pub col_starts : List ℕ
+  pub row_starts : List ℕ
 
 abbrev pub buffers : List ℕ → List ℕ → List ℕ → Buffers
-buffers info cols rows = record { bytes = info; col_starts_lem = cols; row_starts_lem = rows }
+buffers info cols rows = record { bytes = info; col_starts = cols; row_starts = rows }
 
 -- has each of them room: nine bytes, 65 starts, 65 starts?
 abbrev pub has_room : Buffers → Bool
-has_room b = leb 9 (length b.bytes) && (leb 65 (length b.col_starts_lem) && leb 65 (length b.row_starts_lem))
+has_room b = leb 9 (length b.bytes) && (leb 65 (length b.col_starts) && leb 65 (length b.row_starts))
 
 -- the nine bytes: the flag and the eight numbers
 abbrev pub layout_bytes : TileInfo → List ℕ
@@ -41,7 +41,7 @@ layout_bytes t =
 unfoldable pub put_layout : TileInfo → Buffers → Buffers
 put_layout t b =
     pick (has_room b)
-    (buffers (layout_bytes t ++ drop 9 b.bytes) (t.col_start_sb ++ drop 65 b.col_starts_lem) (t.row_start_sb ++ drop 65 b.row_starts_lem))
+    (buffers (layout_bytes t ++ drop 9 b.bytes) (t.col_start_sb ++ drop 65 b.col_starts) (t.row_start_sb ++ drop 65 b.row_starts))
     b
 
 -- the starts in a buffer; where it lacks room, zeros
@@ -62,7 +62,7 @@ layout_in b =
       max_log2_rows = get_or b.bytes 6 0;
       log2_rows = get_or b.bytes 7 0;
       rows = get_or b.bytes 8 0;
-      col_start_sb = take 65 b.col_starts_lem;
-      row_start_sb = take 65 b.row_starts_lem;
+      col_start_sb = take 65 b.col_starts;
+      row_start_sb = take 65 b.row_starts;
     })
     no_tile_info

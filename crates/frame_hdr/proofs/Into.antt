@@ -41,8 +41,8 @@ Held b =
       max_log2_rows = get_or b.bytes 6 0;
       log2_rows = get_or b.bytes 7 0;
       rows = get_or b.bytes 8 0;
-      col_start_sb = take 65 b.col_starts_lem;
-      row_start_sb = take 65 b.row_starts_lem;
+      col_start_sb = take 65 b.col_starts;
+      row_start_sb = take 65 b.row_starts;
     }
 
 pub held : (b : Buffers) → has_room b ≡ true → layout_in b ≡ Held b
@@ -110,7 +110,7 @@ refused_frame s p h q =
 -- what a call leaves, in buffers that keep their lengths
 module _ (s : List ℕ) (p : Place) (b seq : Buffers) (h : FrameHeader) (q : SeqLayout) (holds : h.tiling ≡ layout_in b) {r : FrameOutcome} {after : Buffers}
     (e : (r, after) ≡ parse_tile_info_frmhdr_into s p b seq h q)
-    (cols : length after.col_starts_lem ≡ length b.col_starts_lem) (rows : length after.row_starts_lem ≡ length b.row_starts_lem) where
+    (cols : length after.col_starts ≡ length b.col_starts) (rows : length after.row_starts ≡ length b.row_starts) where
   abbrev z : FrameRead
   z = parse_tile_info_frmhdr s p h q
 

@@ -9,18 +9,16 @@ use Rattle.answers.specs.Numbers.{number_of, is_refusal}
 use Rattle.answers.specs.declared.Answer.{Answer}
 use Rattle.answers.specs.declared.Answer.TheVariants.{Accepted, InvalidSequenceHeader, InvalidTileInfo, InvalidTrailingBits}
 use Rattle.answers.specs.declared.Answer.TheVariants.{WrongArguments, ShortBuffer, TooManyTiles, InvalidFilmGrainData, NoSuchLayout}
-use Rattle.getbits.specs.Bits.{settled}
 use Rattle.getbits.specs.Chain.{pick, then}
 use Rattle.getbits.proofs.Chain.{taken, left}
 use Rattle.getbits.specs.declared.Place.{Place}
 use Rattle.lent.proofs.Calls.{row, pair, triple}
 use Rattle.lent.specs.Calls.{answered, too_short}
 use Rattle.lent.specs.Lent.{place_of, lent_place}
-use Rattle.tile_info.specs.Into.{read_into, parse_tile_info_into}
+use Rattle.tile_info.specs.Into.{parse_tile_info_into}
 use Rattle.tile_info.specs.declared.TileOutcome.{TileOutcome}
 use Rattle.tile_layout.specs.Cleared.{Cleared, ReadOver}
 use Rattle.tile_layout.specs.Demand3.{Demand3, AcceptedLayout}
-use Rattle.tile_layout.specs.Layout.{parse_tile_info}
 use Rattle.tile_layout.specs.declared.TileArgs.{TileArgs}
 use Rattle.tile_layout.specs.declared.TileInfo.{TileInfo}
 use Rattle.tile_layout.specs.declared.TileRead.{TileRead}
@@ -47,16 +45,16 @@ answer_back TooManyTiles = refl
 answer_back InvalidFilmGrainData = refl
 answer_back NoSuchLayout = refl
 
--- a buffer that is too short gives 5, and the place settled
-module _ (s : List ℕ) (position error : ℕ) {x y : ℕ} (place : (x ∷ y ∷ []) ≡ lent_place (settled s (place_of position error)) error) where
-  pub tiles_short : (read : Place → TileInfo → TileRead) (b : Buffers) → has_room b ≡ false → ((5 ∷ x ∷ y ∷ []), b) ≡ lent_tiles read s position error b
-  unfolding lent_tiles
-  tiles_short read b lacks = pair (row ShortBuffer (settled s (place_of position error)) error refl place) refl ∙ sym (left _ _ _ lacks)
+-- a buffer that is too short gives 5, and nothing that was lent changes
+pub tiles_short : (read : Place → TileInfo → TileRead) (position error : ℕ) (b : Buffers) → has_room b ≡ false
+    → ((5 ∷ position ∷ error ∷ []), b) ≡ lent_tiles read position error b
+unfolding lent_tiles
+tiles_short read position error b lacks = sym (left _ _ _ lacks)
 
-  pub frames_short : (read : Place → FrameRead) (code : ℕ) (b seq : Buffers) (known : Bool) → has_room b && has_room seq ≡ false
-      → ((5 ∷ x ∷ y ∷ []), code, b) ≡ lent_frames read s position error code b seq known
-  unfolding lent_frames
-  frames_short read code b seq known lacks = triple (row ShortBuffer (settled s (place_of position error)) error refl place) refl refl ∙ sym (left _ _ _ lacks)
+pub frames_short : (read : Place → FrameRead) (s : List ℕ) (position error code : ℕ) (b seq : Buffers) (known : Bool) → has_room b && has_room seq ≡ false
+    → ((5 ∷ position ∷ error ∷ []), code, b) ≡ lent_frames read s position error code b seq known
+unfolding lent_frames
+frames_short read s position error code b seq known lacks = sym (left _ _ _ lacks)
 
 -- what a layout's answer leaves, handed back
 module _ (r : TileRead) (error : ℕ) (b : Buffers) {n x y : ℕ} {b' : Buffers} (e : ((n ∷ x ∷ y ∷ []), b') ≡ handed_tiles r error b) where
@@ -67,32 +65,25 @@ module _ (r : TileRead) (error : ℕ) (b : Buffers) {n x y : ℕ} {b' : Buffers}
   tiles_kept h = ap (λ (z : List ℕ × Buffers). z.1) e ∙ taken _ _ _ (refused_unless_0 r.answer (λ k. h (tiles_number ∙ k)))
 
 -- refused, the buffers are what they were
-pub lent_kept : (read : Place → TileInfo → TileRead) (s : List ℕ) (position error : ℕ) (b : Buffers) {n x y : ℕ} {b' : Buffers}
-    → ((n ∷ x ∷ y ∷ []), b') ≡ lent_tiles read s position error b → (n ≡ 0 → ⊥) → b' ≡ b
+pub lent_kept : (read : Place → TileInfo → TileRead) (position error : ℕ) (b : Buffers) {n x y : ℕ} {b' : Buffers}
+    → ((n ∷ x ∷ y ∷ []), b') ≡ lent_tiles read position error b → (n ≡ 0 → ⊥) → b' ≡ b
 unfolding lent_tiles then
-lent_kept read s position error b {n} {x} {y} {b'} = by (has_room b)
+lent_kept read position error b {n} {x} {y} {b'} = by (has_room b)
   where
-    by : (t : Bool) → ((n ∷ x ∷ y ∷ []), b') ≡ pick t (handed_tiles (read (place_of position error) (layout_in b)) error b) (too_short s position error, b) → (n ≡ 0 → ⊥) → b' ≡ b
+    by : (t : Bool) → ((n ∷ x ∷ y ∷ []), b') ≡ pick t (handed_tiles (read (place_of position error) (layout_in b)) error b) (too_short position error, b) → (n ≡ 0 → ⊥) → b' ≡ b
     by true e h = tiles_kept (read (place_of position error) (layout_in b)) error b e h
     by false e h = ap (λ (z : List ℕ × Buffers). z.1) e
 
 -- a layout that was read into the buffers is handed back in them
-module _ (s : List ℕ) (position error : ℕ) (a : TileArgs) (b : Buffers) where
+module _ (s : List ℕ) (position error : ℕ) (a : TileArgs) (b : Buffers) (room : has_room b ≡ true) where
   abbrev handed : TileOutcome × Buffers → List ℕ × Buffers
   handed w = (answered w.0.answer w.0.next error, w.1)
-
-  abbrev z : TileRead
-  z = parse_tile_info s (place_of position error) (layout_in b) a
-
-  by_room : (t : Bool) → handed (pick t (read_into z b) (record { answer = ShortBuffer; next = settled s (place_of position error) }, b))
-      ≡ pick t (handed_tiles z error b) (too_short s position error, b)
-  by_room true = refl
-  by_room false = refl
 
   pub into_handed : {r : TileOutcome} {after : Buffers} → (r, after) ≡ parse_tile_info_into s (place_of position error) b a
       → {n x y : ℕ} → n ≡ number_of r.answer → (x ∷ y ∷ []) ≡ lent_place r.next error → ((n ∷ x ∷ y ∷ []), after) ≡ lent_tile_info s position error b a
   unfolding lent_tiles then parse_tile_info_into
-  into_handed {r} e number place = pair (row r.answer r.next error number place) refl ∙ ap handed e ∙ by_room (has_room b)
+  into_handed {r} e number place =
+      pair (row r.answer r.next error number place) refl ∙ ap handed (e ∙ taken _ _ _ room) ∙ sym (taken _ _ _ room)
 
 -- and a frame's
 module _ (r : FrameRead) (error code : ℕ) (b : Buffers) {n x y code' : ℕ} {b' : Buffers} (e : ((n ∷ x ∷ y ∷ []), code', b') ≡ handed_frame r error code b) where

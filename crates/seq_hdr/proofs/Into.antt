@@ -29,18 +29,18 @@ use Rattle.seq_hdr.proofs.Refused.{Refused, head_refused}
 
 -- a layout that was put into buffers that keep their lengths: there is room still, and another one goes over it
 module _ (u : TileInfo) (b b' : Buffers) (h : has_room b ≡ true) (e : b' ≡ put_layout u b)
-    (cols : length b'.col_starts_lem ≡ length b.col_starts_lem) (rows : length b'.row_starts_lem ≡ length b.row_starts_lem) where
-  put : b' ≡ buffers (layout_bytes u ++ drop 9 b.bytes) (u.col_start_sb ++ drop 65 b.col_starts_lem) (u.row_start_sb ++ drop 65 b.row_starts_lem)
+    (cols : length b'.col_starts ≡ length b.col_starts) (rows : length b'.row_starts ≡ length b.row_starts) where
+  put : b' ≡ buffers (layout_bytes u ++ drop 9 b.bytes) (u.col_start_sb ++ drop 65 b.col_starts) (u.row_start_sb ++ drop 65 b.row_starts)
   unfolding put_layout
   put = e ∙ taken _ _ _ h
 
   col-count : length u.col_start_sb ≡ 65
   col-count =
-      omega (arith, length-append u.col_start_sb (drop 65 b.col_starts_lem), ap (λ (x : Buffers). length x.col_starts_lem) put, cols, (room b h).cols, length-drop 65 b.col_starts_lem)
+      omega (arith, length-append u.col_start_sb (drop 65 b.col_starts), ap (λ (x : Buffers). length x.col_starts) put, cols, (room b h).cols, length-drop 65 b.col_starts)
 
   row_count : length u.row_start_sb ≡ 65
   row_count =
-      omega (arith, length-append u.row_start_sb (drop 65 b.row_starts_lem), ap (λ (x : Buffers). length x.row_starts_lem) put, rows, (room b h).rows, length-drop 65 b.row_starts_lem)
+      omega (arith, length-append u.row_start_sb (drop 65 b.row_starts), ap (λ (x : Buffers). length x.row_starts) put, rows, (room b h).rows, length-drop 65 b.row_starts)
 
   pub room-still : has_room b' ≡ true
   room-still = ap has_room e ∙ put_room u b col-count row_count h
@@ -54,13 +54,13 @@ module _ (u : TileInfo) (b b' : Buffers) (h : has_room b ≡ true) (e : b' ≡ p
       taken _ _ _ room-still
       ∙ three
       (ap (λ (x : Buffers). layout_bytes t ++ drop 9 x.bytes) put ∙ ap (λ (l : List ℕ). layout_bytes t ++ l) (drop-append_seam (layout_bytes u) (drop 9 b.bytes)))
-      (ap (λ (x : Buffers). t.col_start_sb ++ drop 65 x.col_starts_lem) put ∙ ap (λ (l : List ℕ). t.col_start_sb ++ l) (behind u.col_start_sb (drop 65 b.col_starts_lem) col-count))
-      (ap (λ (x : Buffers). t.row_start_sb ++ drop 65 x.row_starts_lem) put ∙ ap (λ (l : List ℕ). t.row_start_sb ++ l) (behind u.row_start_sb (drop 65 b.row_starts_lem) row_count))
+      (ap (λ (x : Buffers). t.col_start_sb ++ drop 65 x.col_starts) put ∙ ap (λ (l : List ℕ). t.col_start_sb ++ l) (behind u.col_start_sb (drop 65 b.col_starts) col-count))
+      (ap (λ (x : Buffers). t.row_start_sb ++ drop 65 x.row_starts) put ∙ ap (λ (l : List ℕ). t.row_start_sb ++ l) (behind u.row_start_sb (drop 65 b.row_starts) row_count))
       ∙ sym (taken _ _ _ h)
 
 -- a tiling whose layout z went into the buffers
 module _ (z : TileRead) (b : Buffers) (h : has_room b ≡ true) {o : TileOutcome} {after : Buffers} (e : (o, after) ≡ read_into z b)
-    (cols : length after.col_starts_lem ≡ length b.col_starts_lem) (rows : length after.row_starts_lem ≡ length b.row_starts_lem) where
+    (cols : length after.col_starts ≡ length b.col_starts) (rows : length after.row_starts ≡ length b.row_starts) where
   outcome : o ≡ record { answer = z.answer; next = z.next }
   outcome = ap (λ (x : TileOutcome × Buffers). x.0) e
 

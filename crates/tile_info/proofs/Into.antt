@@ -43,7 +43,7 @@ behind_stays {z} {total} r {rest} w =
     ap (drop 65) w.stored ∙ ap (λ (n : ℕ). drop n (padded edges ++ rest)) (sym (padded_length edges few)) ∙ drop-append_seam (padded edges) rest
 
 module _ (z : TileRead) (b : Buffers) (r : TileOutcome) (after : Buffers)
-    (cols : drop 65 after.col_starts_lem ≡ drop 65 b.col_starts_lem) (rows : drop 65 after.row_starts_lem ≡ drop 65 b.row_starts_lem) where
+    (cols : drop 65 after.col_starts ≡ drop 65 b.col_starts) (rows : drop 65 after.row_starts ≡ drop 65 b.row_starts) where
   pub refused-into : (old : TileInfo) (next : Place) → invalid_tile_info old next ≡ z → r ≡ record { answer = InvalidTileInfo; next = next }
       → after.bytes ≡ b.bytes → SizedInto z b r after
   refused-into old next e er same =
@@ -82,19 +82,19 @@ module _ (z : TileRead) (b : Buffers) {r : TileOutcome} {after : Buffers} (w : S
       ∙ take-append-drop 65 xs
 
   pub restored : is_refusal z.answer ≡ true → has_room b ≡ true
-      → length after.col_starts_lem ≡ length b.col_starts_lem → length after.row_starts_lem ≡ length b.row_starts_lem
-      → {x y : List ℕ} → x ≡ over_front 65 (starts_in b.col_starts_lem) after.col_starts_lem → y ≡ over_front 65 (starts_in b.row_starts_lem) after.row_starts_lem
+      → length after.col_starts ≡ length b.col_starts → length after.row_starts ≡ length b.row_starts
+      → {x y : List ℕ} → x ≡ over_front 65 (starts_in b.col_starts) after.col_starts → y ≡ over_front 65 (starts_in b.row_starts) after.row_starts
       → (r, buffers after.bytes x y) ≡ read_into z b
   restored h has long high ex ey =
       let room = room b has in
       pair w.answers
-      (three (w.same_bytes h) (put_back b.col_starts_lem after.col_starts_lem room.cols long w.same_cols ex)
-      (put_back b.row_starts_lem after.row_starts_lem room.rows high w.same_rows ey)
+      (three (w.same_bytes h) (put_back b.col_starts after.col_starts room.cols long w.same_cols ex)
+      (put_back b.row_starts after.row_starts room.rows high w.same_rows ey)
       ∙ sym (taken _ _ _ h))
 
 -- what a call leaves, in buffers that keep their lengths
 module _ (s : List ℕ) (p : Place) (b : Buffers) (a : TileArgs) {r : TileOutcome} {after : Buffers} (e : (r, after) ≡ parse_tile_info_into s p b a)
-    (cols : length after.col_starts_lem ≡ length b.col_starts_lem) (rows : length after.row_starts_lem ≡ length b.row_starts_lem) where
+    (cols : length after.col_starts ≡ length b.col_starts) (rows : length after.row_starts ≡ length b.row_starts) where
   abbrev z : TileRead
   z = parse_tile_info s p (layout_in b) a
 

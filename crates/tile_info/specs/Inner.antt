@@ -53,5 +53,5 @@ pub record SizedInto (z : TileRead) (before : Buffers) (r : TileOutcome) (after 
   pub answers : r ≡ record { answer = z.answer; next = z.next }
   pub accepted : is_refusal z.answer ≡ false → after ≡ put_layout z.info before
   pub same_bytes : is_refusal z.answer ≡ true → after.bytes ≡ before.bytes
-  pub same_cols : drop 65 after.col_starts_lem ≡ drop 65 before.col_starts_lem
-  pub same_rows : drop 65 after.row_starts_lem ≡ drop 65 before.row_starts_lem
+  pub same_cols : drop 65 after.col_starts ≡ drop 65 before.col_starts
+  pub same_rows : drop 65 after.row_starts ≡ drop 65 before.row_starts

@@ -102,7 +102,7 @@ returns c =
       row_start_sb_unchanged = λ e. absurd (w.not_5 e);
       hdr_after = λ e _. w.numbers e;
       info_after = λ e _. w.bytes e;
-      col_start_sb_after = λ e _. w.col_starts_lem e;
-      row_start_sb_after = λ e _. w.row_starts_lem e;
+      col_start_sb_after = λ e _. w.col_starts e;
+      row_start_sb_after = λ e _. w.row_starts e;
       fact = λ _. rw c.number.ensures (rw c.place_of-p.ensures at (c.read_seq_hdr-r.ensures.fact_2 has));
     }

@@ -7,8 +7,8 @@ use Rattle.capi_bits.specs.Numbers.{lent_number}
 use Rattle.capi_bits.proofs.Ahead.{bit_on}
 use Rattle.capi_bits.proofs.mubanlig_get_bit.Goals as goal
 
-pub overflow_cast-result : goal.overflow_cast-result
-overflow_cast-result c = omega (arith, c.shared_slice_known-then-byte-s-1.given (c.args.position.now / 8))
+pub overflow_cast_result : goal.overflow_cast_result
+overflow_cast_result c = omega (arith, c.shared_slice_known-then-byte-s-1.given (c.args.position.now / 8))
 
 pub returns-then-byte-s : goal.returns-then-byte-s
 returns-then-byte-s c =

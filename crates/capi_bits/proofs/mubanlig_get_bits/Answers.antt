@@ -16,11 +16,11 @@ module _ (c : Then-at-s) where
   known : T (non_neg n) × (nat_abs n < 33) × (pos (nat_abs n) ≡ n)
   known = in_range n 33 (rw (to_z-of_z c.ranges.n) at c.if-n.true)
 
-pub overflow_cast-width : goal.overflow_cast-width
-overflow_cast-width c = rw (to_z-of_z c.ranges.n) ((known (goal.at.overflow_cast-width c).Then-at-s).0, omega (arith, (known (goal.at.overflow_cast-width c).Then-at-s).1))
+pub overflow_cast_width : goal.overflow_cast_width
+overflow_cast_width c = rw (to_z-of_z c.ranges.n) ((known (goal.at.overflow_cast_width c).Then-at-s).0, omega (arith, (known (goal.at.overflow_cast_width c).Then-at-s).1))
 
-pub overflow_cast-width-then-at-s : goal.overflow_cast-width-then-at-s
-overflow_cast-width-then-at-s c = rw (to_z-of_z c.ranges.n) (omega (arith, (known (goal.at.overflow_cast-width-then-at-s c).Then-at-s).1))
+pub overflow_cast_width_then_at_s : goal.overflow_cast_width_then_at_s
+overflow_cast_width_then_at_s c = rw (to_z-of_z c.ranges.n) (omega (arith, (known (goal.at.overflow_cast_width_then_at_s c).Then-at-s).1))
 
 pub returns-then-at-s : goal.returns-then-at-s
 returns-then-at-s c =

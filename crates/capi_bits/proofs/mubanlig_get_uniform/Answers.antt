@@ -30,8 +30,8 @@ module _ (c : After-look_ahead-w) where
       ∙ ap (λ (x : Place). look_at c.args.s.now x c.uniform_forms-f.result.bits) c.place_of.ensures
       ∙ ap (look_at c.args.s.now (place_of c.args.position.now 0)) bits
 
-pub overflow_sub-l : goal.overflow_sub-l
-overflow_sub-l c = omega (arith, bits (goal.at.overflow_sub-l c).After-look_ahead-w, (length_is (max (goal.at.overflow_sub-l c).After-look_ahead-w) (omega (arith, (bounds (goal.at.overflow_sub-l c).After-look_ahead-w).0)) (bounds (goal.at.overflow_sub-l c).After-look_ahead-w).1).0)
+pub overflow_sub_l : goal.overflow_sub_l
+overflow_sub_l c = omega (arith, bits (goal.at.overflow_sub_l c).After-look_ahead-w, (length_is (max (goal.at.overflow_sub_l c).After-look_ahead-w) (omega (arith, (bounds (goal.at.overflow_sub_l c).After-look_ahead-w).0)) (bounds (goal.at.overflow_sub_l c).After-look_ahead-w).1).0)
 
 pub returns-then-w-m : goal.returns-then-w-m
 returns-then-w-m c =

@@ -18,7 +18,7 @@ returns-then-not-has_room-clause-after_after c =
     let a = c.args in
     let own = buffers a.info.now a.col_start_sb.now a.row_start_sb.now in
     let theirs = buffers a.seq_info.now a.seq_col_start_sb.now a.seq_row_start_sb.now in
-    frames_short a.s.now a.position.now a.error.now c.settle_place.ensures _ a.sb128.now own theirs (is_known a.frame_type a.present)
+    frames_short _ a.s.now a.position.now a.error.now a.sb128.now own theirs (is_known a.frame_type a.present)
     (first_fails (has_room own) (has_room theirs) (sym c.has_room.ensures ∙ c.if-not-has_room.true))
 
 pub returns-then-not-has_room-2-clause-after_after : goal.returns-then-not-has_room-2-clause-after_after
@@ -26,7 +26,7 @@ returns-then-not-has_room-2-clause-after_after c =
     let a = c.args in
     let own = buffers a.info.now a.col_start_sb.now a.row_start_sb.now in
     let theirs = buffers a.seq_info.now a.seq_col_start_sb.now a.seq_row_start_sb.now in
-    frames_short a.s.now a.position.now a.error.now c.settle_place-then-not-has_room-2.ensures _ a.sb128.now own theirs (is_known a.frame_type a.present)
+    frames_short _ a.s.now a.position.now a.error.now a.sb128.now own theirs (is_known a.frame_type a.present)
     (second_fails (has_room own) (has_room theirs) (sym c.has_room-2.ensures ∙ c.if-not-has_room-2.true))
 
 pub returns-then-not-is_known-clause-after_after : goal.returns-then-not-is_known-clause-after_after
@@ -36,7 +36,7 @@ returns-then-not-is_known-clause-after_after c =
     let own = buffers a.info.now a.col_start_sb.now a.row_start_sb.now in
     let theirs = buffers a.seq_info.now a.seq_col_start_sb.now a.seq_row_start_sb.now in
     let roomy : has_room own && has_room theirs ≡ true = both_hold (sym c.has_room.ensures ∙ c.if-not-has_room.false) (sym c.has_room-2.ensures ∙ c.if-not-has_room-2.false) in
-    triple (row WrongArguments (settled a.s.now (place_of a.position.now a.error.now)) a.error.now refl c.settle_place-then-not-is_known.ensures) refl refl
+    triple (row WrongArguments (settled a.s.now (place_of a.position.now a.error.now)) a.error.now refl c.settle_place.ensures) refl refl
     ∙ sym (taken _ _ _ roomy ∙ left _ _ _ (sym c.is_known.ensures ∙ c.if-not-is_known.true))
 
 pub returns : goal.returns
@@ -63,8 +63,8 @@ returns c =
       after_after = back ∙ sym (taken _ _ _ roomy ∙ taken _ _ _ known ∙ through _ _ refl);
       sb128_unchanged = code_kept z a.error.now a.sb128.now own back;
       info_unchanged = λ n. ap (λ (b : Buffers). b.bytes) (kept n);
-      col_start_sb_unchanged = λ n. ap (λ (b : Buffers). b.col_starts_lem) (kept n);
-      row_start_sb_unchanged = λ n. ap (λ (b : Buffers). b.row_starts_lem) (kept n);
+      col_start_sb_unchanged = λ n. ap (λ (b : Buffers). b.col_starts) (kept n);
+      row_start_sb_unchanged = λ n. ap (λ (b : Buffers). b.row_starts) (kept n);
       fact = λ _ _ d e. demand3_left _ _ _ c.number.ensures (λ _. refl) (promised.fresh d e);
       cleared = λ n. promised.over.cleared (accepted_by_0 c.frame_layout_into-r.result.answer (sym c.number.ensures ∙ n));
     }

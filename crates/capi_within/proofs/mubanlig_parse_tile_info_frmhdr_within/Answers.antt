@@ -6,7 +6,7 @@ use mir.Facts.{to_z-of_z}
 use Rattle.answers.proofs.Numbers.{accepted_by_0}
 use Rattle.answers.specs.declared.Answer.TheVariants.{WrongArguments, ShortBuffer}
 use Rattle.getbits.specs.Bits.{settled}
-use Rattle.getbits.proofs.Chain.{contrary, through, taken, left, both, both_hold}
+use Rattle.getbits.proofs.Chain.{contrary, through, taken, left, both_hold}
 use Rattle.lent.specs.Lent.{place_of}
 use Rattle.frame_layout.specs.Frame.{frame_tiles}
 use Rattle.frame_layout.specs.declared.FrameHeader.{FrameHeader}
@@ -47,7 +47,7 @@ returns-then-not-has_room c =
     let h = frame_given a.frame_type a.width a.height a.sb128.now own in
     let q = seq_given a.seq_sb128 a.max_width a.max_height a.level a.tier a.present theirs in
     let fails = first_fails (has_room own) (has_room theirs) (sym c.has_room.ensures ∙ c.if-not-has_room.true) in
-    let e = frames_short a.s.now a.position.now a.error.now c.settle_place.ensures _ a.sb128.now own theirs (is_known a.frame_type a.present) fails in
+    let e = frames_short _ a.s.now a.position.now a.error.now a.sb128.now own theirs (is_known a.frame_type a.present) fails in
     record {
       after_after = e;
       sb128_unchanged = λ _. refl;
@@ -68,7 +68,7 @@ returns-then-not-has_room-2 c =
     let h = frame_given a.frame_type a.width a.height a.sb128.now own in
     let q = seq_given a.seq_sb128 a.max_width a.max_height a.level a.tier a.present theirs in
     let fails = second_fails (has_room own) (has_room theirs) (sym c.has_room-2.ensures ∙ c.if-not-has_room-2.true) in
-    let e = frames_short a.s.now a.position.now a.error.now c.settle_place-then-not-has_room-2.ensures _ a.sb128.now own theirs (is_known a.frame_type a.present) fails in
+    let e = frames_short _ a.s.now a.position.now a.error.now a.sb128.now own theirs (is_known a.frame_type a.present) fails in
     record {
       after_after = e;
       sb128_unchanged = λ _. refl;
@@ -91,7 +91,7 @@ returns-then-not-is_known c =
     let q = seq_given a.seq_sb128 a.max_width a.max_height a.level a.tier a.present theirs in
     let roomy : has_room own && has_room theirs ≡ true = both_hold (sym c.has_room.ensures ∙ c.if-not-has_room.false) (sym c.has_room-2.ensures ∙ c.if-not-has_room-2.false) in
     let unknown = sym c.is_known.ensures ∙ c.if-not-is_known.true in
-    let e = triple (row WrongArguments (settled a.s.now (place_of a.position.now a.error.now)) a.error.now refl c.settle_place-then-not-is_known.ensures) refl refl
+    let e = triple (row WrongArguments (settled a.s.now (place_of a.position.now a.error.now)) a.error.now refl c.settle_place.ensures) refl refl
     ∙ sym (taken _ _ _ roomy ∙ left _ _ _ unknown) in
     record {
       after_after = e;
@@ -132,8 +132,8 @@ returns c =
       after_after = e;
       sb128_unchanged = code_kept x a.error.now a.sb128.now own back;
       info_unchanged = λ n. ap (λ (b : Buffers). b.bytes) (kept n);
-      col_start_sb_unchanged = λ n. ap (λ (b : Buffers). b.col_starts_lem) (kept n);
-      row_start_sb_unchanged = λ n. ap (λ (b : Buffers). b.row_starts_lem) (kept n);
+      col_start_sb_unchanged = λ n. ap (λ (b : Buffers). b.col_starts) (kept n);
+      row_start_sb_unchanged = λ n. ap (λ (b : Buffers). b.row_starts) (kept n);
       fact = λ _ _. limited_left (frame_tiles x) _ _ number info promise.limited;
       fact_2 = λ n. let k = accepted_by_0 x.answer (sym number ∙ n) in subst (FreshAccepted a.s.now place h q) (sym (info k)) (promise.accepted k);
       fact_3 = λ w. e ∙ on_wall a.s.now a.position.now a.error.now own theirs (is_known a.frame_type a.present) h q limit w;

@@ -25,7 +25,7 @@ use Rattle.capi_within.proofs.mubanlig_parse_tile_info_within.Goals as goal
 module _ (s : List ℕ) (position error : ℕ) (b : Buffers) (a : TileArgs) (m : TileLimit) where
   -- with the wall's limit the definition is the wall's
   on_wall : m ≡ wall → lent_tile_info_within s position error b a m ≡ lent_tile_info s position error b a
-  on_wall e = tiles_alike _ _ s position error b ((limited_tiles s (place_of position error) (layout_in b) a m).as_on_wall e)
+  on_wall e = tiles_alike _ _ position error b ((limited_tiles s (place_of position error) (layout_in b) a m).as_on_wall e)
 
   -- what the definition says, once the layout is read
   meaning : (r : TileRead) → has_room b ≡ true → r ≡ parse_tile_info_within s (place_of position error) (layout_in b) a m
@@ -42,7 +42,7 @@ returns-then-not-has_room c =
     let given = buffers a.info.now a.col_start_sb.now a.row_start_sb.now in
     let asked = args_of a.sbmul a.sb128 a.seq_sb128 a.w a.h a.level a.tier in
     let lacks = sym c.has_room.ensures ∙ c.if-not-has_room.true in
-    let e = tiles_short a.s.now a.position.now a.error.now c.settle_place.ensures _ given lacks in
+    let e = tiles_short _ a.position.now a.error.now given lacks in
     record {
       after_after = e;
       info_unchanged = λ _. refl;
@@ -76,8 +76,8 @@ returns c =
     record {
       after_after = e;
       info_unchanged = λ n. ap (λ (b : Buffers). b.bytes) (kept n);
-      col_start_sb_unchanged = λ n. ap (λ (b : Buffers). b.col_starts_lem) (kept n);
-      row_start_sb_unchanged = λ n. ap (λ (b : Buffers). b.row_starts_lem) (kept n);
+      col_start_sb_unchanged = λ n. ap (λ (b : Buffers). b.col_starts) (kept n);
+      row_start_sb_unchanged = λ n. ap (λ (b : Buffers). b.row_starts) (kept n);
       fact = λ _. limited_left x _ _ number info promise.limited;
       fact_2 = λ n. let h = accepted_by_0 x.answer (sym number ∙ n) in subst (AcceptedLayout a.s.now place asked) (sym (info h)) (promise.accepted h);
       fact_3 = λ w. e ∙ on_wall a.s.now a.position.now a.error.now given asked limit w;

@@ -23,24 +23,24 @@ answer_lt : (s : List ℕ) (p : Place) (x : ℕ) (n : ℕ) (r : Number) → r �
 answer_lt s p x n r e some low =
     omega (arith, subexp_u_lt s p x (2 * n - 1) (pos 3) (omega arith), ap (λ (z : Number). z.value) e)
 
-pub overflow_cast-x : goal.overflow_cast-x
-overflow_cast-x c =
+pub overflow_cast_x : goal.overflow_cast_x
+overflow_cast_x c =
     let same : to_z w64 (of_z w64 c.shifted-x.result) ≡ c.shifted-x.result = to_z-of_z {w = w64} (record { sfits = c.shifted-x.type_inv }) in
     let tested : c.subexp_range.result ≡ subexp_range c.args.n c.shifted-x.result = rw (same) at c.subexp_range.ensures in
     let right : subexp_range c.args.n c.shifted-x.result ≡ true = sym (tested) ∙ c.if-subexp_range.true in
     let known : (let n = c.args.n in let x = c.shifted-x.result in (1 ≤ n) × (n ≤ 2 ^ 30) × T (non_neg x) × (nat_abs x < 2 ^ 31)) = range_known c.args.n c.shifted-x.result (right) in
     rw (same) ((known).2, omega (arith, (known).3))
 
-pub overflow_add-n : goal.overflow_add-n
-overflow_add-n c =
+pub overflow_add_n : goal.overflow_add_n
+overflow_add_n c =
     let same : to_z w64 (of_z w64 c.shifted-x.result) ≡ c.shifted-x.result = to_z-of_z {w = w64} (record { sfits = c.shifted-x.type_inv }) in
     let tested : c.subexp_range.result ≡ subexp_range c.args.n c.shifted-x.result = rw (same) at c.subexp_range.ensures in
     let right : subexp_range c.args.n c.shifted-x.result ≡ true = sym (tested) ∙ c.if-subexp_range.true in
     let known : (let n = c.args.n in let x = c.shifted-x.result in (1 ≤ n) × (n ≤ 2 ^ 30) × T (non_neg x) × (nat_abs x < 2 ^ 31)) = range_known c.args.n c.shifted-x.result (right) in
     omega (arith, (known).1, c.less_one-off.ensures)
 
-pub difference-requires : goal.difference-requires
-difference-requires c =
+pub difference_requires : goal.difference_requires
+difference_requires c =
     let same : to_z w64 (of_z w64 c.shifted-x.result) ≡ c.shifted-x.result = to_z-of_z {w = w64} (record { sfits = c.shifted-x.type_inv }) in
     let tested : c.subexp_range.result ≡ subexp_range c.args.n c.shifted-x.result = rw (same) at c.subexp_range.ensures in
     let right : subexp_range c.args.n c.shifted-x.result ≡ true = sym (tested) ∙ c.if-subexp_range.true in

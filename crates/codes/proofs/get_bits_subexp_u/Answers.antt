@@ -19,29 +19,29 @@ use Rattle.codes.proofs.Callers.{subexp_lt}
 use Rattle.getbits.specs.Chain.{pick}
 use Rattle.codes.proofs.get_bits_subexp_u.Goals as goal
 
-pub overflow_cast-k : goal.overflow_cast-k
-overflow_cast-k c =
+pub overflow_cast_k : goal.overflow_cast_k
+overflow_cast_k c =
     let tested : (let a = c.args in c.subexp_args.result ≡ subexp_args a.ref_val a.n a.k) = rw (to_z-of_z c.ranges.k) at c.subexp_args.ensures in
     let right : (let a = c.args in subexp_args a.ref_val a.n a.k ≡ true) = sym (tested) ∙ c.if-subexp_args.true in
     let known : (let a = c.args in T (non_neg a.k) × (nat_abs a.k < 32) × (a.ref_val < a.n) × (a.n < 2 ^ 31)) = let a = c.args in args_known a.ref_val a.n a.k (right) in
     rw (to_z-of_z c.ranges.k) ((known).0, nat_abs_fits c.args.k c.ranges.k)
 
-pub subexp-r-requires : goal.subexp-r-requires
-subexp-r-requires c =
+pub subexp_r_requires : goal.subexp_r_requires
+subexp_r_requires c =
     let tested : (let a = c.args in c.subexp_args.result ≡ subexp_args a.ref_val a.n a.k) = rw (to_z-of_z c.ranges.k) at c.subexp_args.ensures in
     let right : (let a = c.args in subexp_args a.ref_val a.n a.k ≡ true) = sym (tested) ∙ c.if-subexp_args.true in
     let known : (let a = c.args in T (non_neg a.k) × (nat_abs a.k < 32) × (a.ref_val < a.n) × (a.n < 2 ^ 31)) = let a = c.args in args_known a.ref_val a.n a.k (right) in
     rw (to_z-of_z c.ranges.k) ((known).1, omega (arith, (known).2), (known).3)
 
-pub overflow_mul-ref_val : goal.overflow_mul-ref_val
-overflow_mul-ref_val c =
+pub overflow_mul_ref_val : goal.overflow_mul_ref_val
+overflow_mul_ref_val c =
     let tested : (let a = c.args in c.subexp_args.result ≡ subexp_args a.ref_val a.n a.k) = rw (to_z-of_z c.ranges.k) at c.subexp_args.ensures in
     let right : (let a = c.args in subexp_args a.ref_val a.n a.k ≡ true) = sym (tested) ∙ c.if-subexp_args.true in
     let known : (let a = c.args in T (non_neg a.k) × (nat_abs a.k < 32) × (a.ref_val < a.n) × (a.n < 2 ^ 31)) = let a = c.args in args_known a.ref_val a.n a.k (right) in
     omega (arith, (known).2, (known).3)
 
-pub inv_recenter-requires : goal.inv_recenter-requires
-inv_recenter-requires c =
+pub inv_recenter_requires : goal.inv_recenter_requires
+inv_recenter_requires c =
     let tested : (let a = c.args in c.subexp_args.result ≡ subexp_args a.ref_val a.n a.k) = rw (to_z-of_z c.ranges.k) at c.subexp_args.ensures in
     let right : (let a = c.args in subexp_args a.ref_val a.n a.k ≡ true) = sym (tested) ∙ c.if-subexp_args.true in
     let known : (let a = c.args in T (non_neg a.k) × (nat_abs a.k < 32) × (a.ref_val < a.n) × (a.n < 2 ^ 31)) = let a = c.args in args_known a.ref_val a.n a.k (right) in
@@ -58,39 +58,39 @@ returns-then-ref_val-n c =
     sym (opened
     ∙ ap (λ (x : ℕ). record { value = x; next = c.subexp-r.result.next }) (taken _ _ _ (le-leb (2 * a.ref_val) a.n c.if-ref_val-n.true) ∙ sym c.inv_recenter.ensures))
 
-pub overflow_sub-result : goal.overflow_sub-result
-overflow_sub-result c =
+pub overflow_sub_result : goal.overflow_sub_result
+overflow_sub_result c =
     let tested : (let a = c.args in c.subexp_args.result ≡ subexp_args a.ref_val a.n a.k) = rw (to_z-of_z c.ranges.k) at c.subexp_args.ensures in
     let right : (let a = c.args in subexp_args a.ref_val a.n a.k ≡ true) = sym (tested) ∙ c.if-subexp_args.true in
     let known : (let a = c.args in T (non_neg a.k) × (nat_abs a.k < 32) × (a.ref_val < a.n) × (a.n < 2 ^ 31)) = let a = c.args in args_known a.ref_val a.n a.k (right) in
     let below : c.subexp-r.result.value < c.args.n = omega (arith, subexp_lt 33 c.args.s.now c.args.p c.args.n (nat_abs (to_z w32 (of_z w32 c.args.k))) 0 0 (omega (arith, (known).2)), ap (λ (x : Number). x.value) c.subexp-r.ensures) in
     omega (arith, below)
 
-pub overflow_sub-n : goal.overflow_sub-n
-overflow_sub-n c =
+pub overflow_sub_n : goal.overflow_sub_n
+overflow_sub_n c =
     let tested : (let a = c.args in c.subexp_args.result ≡ subexp_args a.ref_val a.n a.k) = rw (to_z-of_z c.ranges.k) at c.subexp_args.ensures in
     let right : (let a = c.args in subexp_args a.ref_val a.n a.k ≡ true) = sym (tested) ∙ c.if-subexp_args.true in
     let known : (let a = c.args in T (non_neg a.k) × (nat_abs a.k < 32) × (a.ref_val < a.n) × (a.n < 2 ^ 31)) = let a = c.args in args_known a.ref_val a.n a.k (right) in
     let below : c.subexp-r.result.value < c.args.n = omega (arith, subexp_lt 33 c.args.s.now c.args.p c.args.n (nat_abs (to_z w32 (of_z w32 c.args.k))) 0 0 (omega (arith, (known).2)), ap (λ (x : Number). x.value) c.subexp-r.ensures) in
     omega (arith, below)
 
-pub overflow_sub-n-then-subexp_args : goal.overflow_sub-n-then-subexp_args
-overflow_sub-n-then-subexp_args c =
+pub overflow_sub_n_then_subexp_args : goal.overflow_sub_n_then_subexp_args
+overflow_sub_n_then_subexp_args c =
     let tested : (let a = c.args in c.subexp_args.result ≡ subexp_args a.ref_val a.n a.k) = rw (to_z-of_z c.ranges.k) at c.subexp_args.ensures in
     let right : (let a = c.args in subexp_args a.ref_val a.n a.k ≡ true) = sym (tested) ∙ c.if-subexp_args.true in
     let known : (let a = c.args in T (non_neg a.k) × (nat_abs a.k < 32) × (a.ref_val < a.n) × (a.n < 2 ^ 31)) = let a = c.args in args_known a.ref_val a.n a.k (right) in
     omega (arith, (known).2)
 
-pub inv_recenter-requires-then-subexp_args : goal.inv_recenter-requires-then-subexp_args
-inv_recenter-requires-then-subexp_args c =
+pub inv_recenter_requires_then_subexp_args : goal.inv_recenter_requires_then_subexp_args
+inv_recenter_requires_then_subexp_args c =
     let tested : (let a = c.args in c.subexp_args.result ≡ subexp_args a.ref_val a.n a.k) = rw (to_z-of_z c.ranges.k) at c.subexp_args.ensures in
     let right : (let a = c.args in subexp_args a.ref_val a.n a.k ≡ true) = sym (tested) ∙ c.if-subexp_args.true in
     let known : (let a = c.args in T (non_neg a.k) × (nat_abs a.k < 32) × (a.ref_val < a.n) × (a.n < 2 ^ 31)) = let a = c.args in args_known a.ref_val a.n a.k (right) in
     let below : c.subexp-r.result.value < c.args.n = omega (arith, subexp_lt 33 c.args.s.now c.args.p c.args.n (nat_abs (to_z w32 (of_z w32 c.args.k))) 0 0 (omega (arith, (known).2)), ap (λ (x : Number). x.value) c.subexp-r.ensures) in
     omega (arith, (known).2, (known).3, below)
 
-pub overflow_sub-result-then-subexp_args : goal.overflow_sub-result-then-subexp_args
-overflow_sub-result-then-subexp_args c =
+pub overflow_sub_result_then_subexp_args : goal.overflow_sub_result_then_subexp_args
+overflow_sub_result_then_subexp_args c =
     let tested : (let a = c.args in c.subexp_args.result ≡ subexp_args a.ref_val a.n a.k) = rw (to_z-of_z c.ranges.k) at c.subexp_args.ensures in
     let right : (let a = c.args in subexp_args a.ref_val a.n a.k ≡ true) = sym (tested) ∙ c.if-subexp_args.true in
     let known : (let a = c.args in T (non_neg a.k) × (nat_abs a.k < 32) × (a.ref_val < a.n) × (a.n < 2 ^ 31)) = let a = c.args in args_known a.ref_val a.n a.k (right) in

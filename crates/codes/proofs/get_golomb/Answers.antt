@@ -53,8 +53,8 @@ returns-then-k-ge32 c =
     let a = c.args in
     c.refuse.ensures ∙ sym (taken _ _ _ (le-leb 32 a.k (search rules)))
 
-pub overflow_add-bits : goal.overflow_add-bits
-overflow_add-bits c = omega (arith, ones (goal.at.overflow_add-bits c).After-run-c)
+pub overflow_add_bits : goal.overflow_add_bits
+overflow_add_bits c = omega (arith, ones (goal.at.overflow_add_bits c).After-run-c)
 
 pub returns-then-bits-k-eq32 : goal.returns-then-bits-k-eq32
 unfolding get_golomb
@@ -62,12 +62,12 @@ returns-then-bits-k-eq32 c =
     let a = c.args in
     sym (left _ _ _ (lt-leb 32 a.k (omega arith)) ∙ through _ _ c.run-c.ensures ∙ taken _ _ _ (eq-eqb (c.run-c.result.value + a.k) 32 c.if-bits-k-eq32.true))
 
-pub overflow_mul-result : goal.overflow_mul-result
-overflow_mul-result c = omega (arith, bounded (goal.at.overflow_mul-result c).After-power)
+pub overflow_mul_result : goal.overflow_mul_result
+overflow_mul_result c = omega (arith, bounded (goal.at.overflow_mul_result c).After-power)
 
-pub overflow_add-result : goal.overflow_add-result
-overflow_add-result c =
-    omega (arith, bounded (goal.at.overflow_add-result c).After-power, rest_lt (goal.at.overflow_add-result c).After-power)
+pub overflow_add_result : goal.overflow_add_result
+overflow_add_result c =
+    omega (arith, bounded (goal.at.overflow_add_result c).After-power, rest_lt (goal.at.overflow_add_result c).After-power)
 
 pub returns : goal.returns
 unfolding get_golomb

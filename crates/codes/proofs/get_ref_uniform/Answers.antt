@@ -55,9 +55,9 @@ returns-then-r-d c =
     let other : (let a = c.args in let r = c.get_uniform-r.result in get_ref_uniform a.s.now a.p a.max a.def ≡ record { value = pick (ltb r.value (held (goal.at.returns-then-r-d c).After-get_uniform-r)) r.value (r.value + 1); next = r.next }) = opened ∙ left _ _ _ (ne_eqb c.get_bit-b.result.value 0 c.if-b-eq0.false) ∙ through _ _ c.get_uniform-r.ensures in
     sym (other ∙ ap (λ (x : ℕ). record { value = x; next = c.get_uniform-r.result.next }) (taken _ _ _ (lt-ltb c.get_uniform-r.result.value (held (goal.at.returns-then-r-d c).After-get_uniform-r) c.if-r-d.true)))
 
-pub overflow_add-result : goal.overflow_add-result
-overflow_add-result c =
-    omega (arith, below (goal.at.overflow_add-result c).After-get_uniform-r)
+pub overflow_add_result : goal.overflow_add_result
+overflow_add_result c =
+    omega (arith, below (goal.at.overflow_add_result c).After-get_uniform-r)
 
 pub returns : goal.returns
 unfolding get_ref_uniform

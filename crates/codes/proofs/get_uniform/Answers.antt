@@ -25,11 +25,11 @@ module _ (u : After-uniform_of-u) where
       let fit = both (leb 1 m) (ltb m 2147483648) u.if-max.true in
       u.uniform_of-u.ensures.reads u.args.s.now u.args.p u.look_ahead.ensures there.2 (leb-true 1 m fit.0) (ltb-true m 2147483648 fit.1)
 
-pub overflow_add-stop : goal.overflow_add-stop
-overflow_add-stop c = omega (arith, (there (goal.at.overflow_add-stop c).After-uniform_of-u).0, c.uniform_of-u.ensures.most)
+pub overflow_add_stop : goal.overflow_add_stop
+overflow_add_stop c = omega (arith, (there (goal.at.overflow_add_stop c).After-uniform_of-u).0, c.uniform_of-u.ensures.most)
 
-pub overflow_add-result : goal.overflow_add-result
-overflow_add-result c = omega (arith, (there (goal.at.overflow_add-result c).After-uniform_of-u).0, (there (goal.at.overflow_add-result c).After-uniform_of-u).1, c.uniform_of-u.ensures.most)
+pub overflow_add_result : goal.overflow_add_result
+overflow_add_result c = omega (arith, (there (goal.at.overflow_add_result c).After-uniform_of-u).0, (there (goal.at.overflow_add_result c).After-uniform_of-u).1, c.uniform_of-u.ensures.most)
 
 pub returns-then-eight_left : goal.returns-then-eight_left
 returns-then-eight_left c =

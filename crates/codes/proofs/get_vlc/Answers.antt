@@ -22,8 +22,8 @@ vlc_read s p z r e h f g =
     ∙ ap (plus (2 ^ z.value - 1)) (sym (as_read s z.next z.value (omega arith) f))
     ∙ ap (λ (x : ℕ). plus (x - 1) r) (sym g))
 
-pub overflow_add-result : goal.overflow_add-result
-overflow_add-result c =
+pub overflow_add_result : goal.overflow_add_result
+overflow_add_result c =
     let z = c.run-z.result in
     let r = as_read c.args.s.now z.next z.value (omega arith) c.read_bits-r.ensures in
     omega (arith, read_lt c.args.s.now z.next z.value, ap (λ (x : Number). x.value) r, power_below (omega arith) c.power.ensures.0)

@@ -68,14 +68,14 @@ module _ (k : After-read_bits-b) where
   fits : k.loop-left.weight * 128 ≤ 2 ^ 56
   fits = room k.loop-left.weight (k.loop-left.left - 1) weighs
 
-pub loop-left-init : goal.loop-left-init
-loop-left-init c = (omega arith, refl, omega arith, refl)
+pub loop_left_init : goal.loop_left_init
+loop_left_init c = (omega arith, refl, omega arith, refl)
 
-pub overflow_mul-result : goal.overflow_mul-result
-overflow_mul-result c = omega (arith, under (goal.at.overflow_mul-result c).After-read_bits-b (byte (goal.at.overflow_mul-result c).After-read_bits-b).value (omega arith), fits (goal.at.overflow_mul-result c).After-read_bits-b)
+pub overflow_mul_result : goal.overflow_mul_result
+overflow_mul_result c = omega (arith, under (goal.at.overflow_mul_result c).After-read_bits-b (byte (goal.at.overflow_mul_result c).After-read_bits-b).value (omega arith), fits (goal.at.overflow_mul_result c).After-read_bits-b)
 
-pub overflow_add-result : goal.overflow_add-result
-overflow_add-result c = omega (arith, under (goal.at.overflow_add-result c).After-read_bits-b (byte (goal.at.overflow_add-result c).After-read_bits-b).value (omega arith), fits (goal.at.overflow_add-result c).After-read_bits-b)
+pub overflow_add_result : goal.overflow_add_result
+overflow_add_result c = omega (arith, under (goal.at.overflow_add_result c).After-read_bits-b (byte (goal.at.overflow_add_result c).After-read_bits-b).value (omega arith), fits (goal.at.overflow_add_result c).After-read_bits-b)
 
 pub returns-then-v-lt128 : goal.returns-then-v-lt128
 returns-then-v-lt128 c =
@@ -86,27 +86,27 @@ returns-then-v-lt128 c =
       ap (λ (r : Number). r.next) (sym e) ∙ l.invariant.3,
     )
 
-pub overflow_mul-val : goal.overflow_mul-val
-overflow_mul-val c = omega (arith, under (goal.at.overflow_mul-val c).After-read_bits-b ((byte (goal.at.overflow_mul-val c).After-read_bits-b).value - 128) (omega (arith, byte_small (goal.at.overflow_mul-val c).After-read_bits-b)), fits (goal.at.overflow_mul-val c).After-read_bits-b)
+pub overflow_mul_val : goal.overflow_mul_val
+overflow_mul_val c = omega (arith, under (goal.at.overflow_mul_val c).After-read_bits-b ((byte (goal.at.overflow_mul_val c).After-read_bits-b).value - 128) (omega (arith, byte_small (goal.at.overflow_mul_val c).After-read_bits-b)), fits (goal.at.overflow_mul_val c).After-read_bits-b)
 
-pub overflow_add-val : goal.overflow_add-val
-overflow_add-val c = omega (arith, under (goal.at.overflow_add-val c).After-read_bits-b ((byte (goal.at.overflow_add-val c).After-read_bits-b).value - 128) (omega (arith, byte_small (goal.at.overflow_add-val c).After-read_bits-b)), fits (goal.at.overflow_add-val c).After-read_bits-b)
+pub overflow_add_val : goal.overflow_add_val
+overflow_add_val c = omega (arith, under (goal.at.overflow_add_val c).After-read_bits-b ((byte (goal.at.overflow_add_val c).After-read_bits-b).value - 128) (omega (arith, byte_small (goal.at.overflow_add_val c).After-read_bits-b)), fits (goal.at.overflow_add_val c).After-read_bits-b)
 
-pub overflow_mul-weight : goal.overflow_mul-weight
-overflow_mul-weight c = omega (arith, fits (goal.at.overflow_mul-weight c).After-read_bits-b)
+pub overflow_mul_weight : goal.overflow_mul_weight
+overflow_mul_weight c = omega (arith, fits (goal.at.overflow_mul_weight c).After-read_bits-b)
 
-pub loop-left-smaller : goal.loop-left-smaller
-loop-left-smaller c = omega arith
+pub loop_left_smaller : goal.loop_left_smaller
+loop_left_smaller c = omega arith
 
-pub loop-left-preserved : goal.loop-left-preserved
-loop-left-preserved c =
+pub loop_left_preserved : goal.loop_left_preserved
+loop_left_preserved c =
     let l = c.loop-left in
-    let rest : Number = uleb_from (l.left - 1) (s (goal.at.loop-left-preserved c).After-read_bits-b) (byte (goal.at.loop-left-preserved c).After-read_bits-b).next in
-    let e : uleb_from l.left (s (goal.at.loop-left-preserved c).After-read_bits-b) l.q ≡ record { value = (byte (goal.at.loop-left-preserved c).After-read_bits-b).value - 128 + 128 * rest.value; next = rest.next } =
-    ap (λ (n : ℕ). uleb_from n (s (goal.at.loop-left-preserved c).After-read_bits-b) l.q) (some (goal.at.loop-left-preserved c).After-read_bits-b) ∙ uleb_more (l.left - 1) (s (goal.at.loop-left-preserved c).After-read_bits-b) l.q (byte (goal.at.loop-left-preserved c).After-read_bits-b) c.read_bits-b.ensures c.if-v-lt128.false in (
-      under (goal.at.loop-left-preserved c).After-read_bits-b ((byte (goal.at.loop-left-preserved c).After-read_bits-b).value - 128) (omega (arith, byte_small (goal.at.loop-left-preserved c).After-read_bits-b)),
-      heavier l.weight (l.left - 1) (weighs (goal.at.loop-left-preserved c).After-read_bits-b),
-      spread l.val ((byte (goal.at.loop-left-preserved c).After-read_bits-b).value - 128) l.weight rest.value ∙ ap (λ (r : Number). l.val + l.weight * r.value) (sym e) ∙ l.invariant.2,
+    let rest : Number = uleb_from (l.left - 1) (s (goal.at.loop_left_preserved c).After-read_bits-b) (byte (goal.at.loop_left_preserved c).After-read_bits-b).next in
+    let e : uleb_from l.left (s (goal.at.loop_left_preserved c).After-read_bits-b) l.q ≡ record { value = (byte (goal.at.loop_left_preserved c).After-read_bits-b).value - 128 + 128 * rest.value; next = rest.next } =
+    ap (λ (n : ℕ). uleb_from n (s (goal.at.loop_left_preserved c).After-read_bits-b) l.q) (some (goal.at.loop_left_preserved c).After-read_bits-b) ∙ uleb_more (l.left - 1) (s (goal.at.loop_left_preserved c).After-read_bits-b) l.q (byte (goal.at.loop_left_preserved c).After-read_bits-b) c.read_bits-b.ensures c.if-v-lt128.false in (
+      under (goal.at.loop_left_preserved c).After-read_bits-b ((byte (goal.at.loop_left_preserved c).After-read_bits-b).value - 128) (omega (arith, byte_small (goal.at.loop_left_preserved c).After-read_bits-b)),
+      heavier l.weight (l.left - 1) (weighs (goal.at.loop_left_preserved c).After-read_bits-b),
+      spread l.val ((byte (goal.at.loop_left_preserved c).After-read_bits-b).value - 128) l.weight rest.value ∙ ap (λ (r : Number). l.val + l.weight * r.value) (sym e) ∙ l.invariant.2,
       ap (λ (r : Number). r.next) (sym e) ∙ l.invariant.3,
     )
 

@@ -14,11 +14,11 @@ small c = omega arith
 sum_fits : (c : goal.Start) → SFits w64 (c.args.ref_val +ℤ pos c.args.off)
 sum_fits c = record { sfits = omega (arith, add_mag c.args.ref_val c.args.off, c.ranges.ref_val.sfits) }
 
-pub overflow_cast-result : goal.overflow_cast-result
-overflow_cast-result c = rw (to_z-of_z c.ranges.ref_val) (widened c.args.ref_val c.ranges.ref_val)
+pub overflow_cast_result : goal.overflow_cast_result
+overflow_cast_result c = rw (to_z-of_z c.ranges.ref_val) (widened c.args.ref_val c.ranges.ref_val)
 
-pub overflow_add-result : goal.overflow_add-result
-overflow_add-result c = rw (through_64 c.args.ref_val c.ranges.ref_val, to_z_pos w64 c.args.off (small c)) (sum_fits c)
+pub overflow_add_result : goal.overflow_add_result
+overflow_add_result c = rw (through_64 c.args.ref_val c.ranges.ref_val, to_z_pos w64 c.args.off (small c)) (sum_fits c)
 
 pub returns : goal.returns
 returns c = rw (through_64 c.args.ref_val c.ranges.ref_val, to_z_pos w64 c.args.off (small c)) (to_z-of_z (sum_fits c))

@@ -82,33 +82,33 @@ module _ (k : After-power-a) where
     more : b < 30
     more = pow_lt_only b 30 (omega (arith, twos, k.requires.2))
 
-pub loop-v-init : goal.loop-v-init
-loop-v-init c = (search rules, search rules, search rules, refl)
+pub loop_v_init : goal.loop_v_init
+loop_v_init c = (search rules, search rules, search rules, refl)
 
-pub overflow_add-result : goal.overflow_add-result
-overflow_add-result c =
-    omega (arith, within (goal.at.overflow_add-result c).After-power-a c.get_uniform-r.result (rest (goal.at.overflow_add-result c).After-power-a c.get_uniform-r.result c.get_uniform-r.ensures c.if-n-v.true))
+pub overflow_add_result : goal.overflow_add_result
+overflow_add_result c =
+    omega (arith, within (goal.at.overflow_add_result c).After-power-a c.get_uniform-r.result (rest (goal.at.overflow_add_result c).After-power-a c.get_uniform-r.result c.get_uniform-r.ensures c.if-n-v.true))
 
 pub returns-then-n-v : goal.returns-then-n-v
 returns-then-n-v c =
     rest (goal.at.returns-then-n-v c).After-power-a c.get_uniform-r.result c.get_uniform-r.ensures c.if-n-v.true
 
-pub overflow_add-result-then-g-eq0 : goal.overflow_add-result-then-g-eq0
-overflow_add-result-then-g-eq0 c =
-    omega (arith, within (goal.at.overflow_add-result-then-g-eq0 c).After-power-a c.read_bits-r.result (here (goal.at.overflow_add-result-then-g-eq0 c).After-power-a c.get_bit-g.result c.get_bit-g.ensures c.if-n-v.false c.if-g-eq0.true c.read_bits-r.result c.read_bits-r.ensures))
+pub overflow_add_result_then_g_eq0 : goal.overflow_add_result_then_g_eq0
+overflow_add_result_then_g_eq0 c =
+    omega (arith, within (goal.at.overflow_add_result_then_g_eq0 c).After-power-a c.read_bits-r.result (here (goal.at.overflow_add_result_then_g_eq0 c).After-power-a c.get_bit-g.result c.get_bit-g.ensures c.if-n-v.false c.if-g-eq0.true c.read_bits-r.result c.read_bits-r.ensures))
 
 pub returns-then-g-eq0 : goal.returns-then-g-eq0
 returns-then-g-eq0 c =
     here (goal.at.returns-then-g-eq0 c).After-power-a c.get_bit-g.result c.get_bit-g.ensures c.if-n-v.false c.if-g-eq0.true c.read_bits-r.result c.read_bits-r.ensures
 
-pub loop-v-smaller : goal.loop-v-smaller
-loop-v-smaller c = omega arith
+pub loop_v_smaller : goal.loop_v_smaller
+loop_v_smaller c = omega arith
 
-pub loop-v-preserved : goal.loop-v-preserved
-loop-v-preserved c =
-    let small = more (goal.at.loop-v-preserved c).After-power-a c.get_bit-g.result c.get_bit-g.ensures c.if-n-v.false in (
+pub loop_v_preserved : goal.loop_v_preserved
+loop_v_preserved c =
+    let small = more (goal.at.loop_v_preserved c).After-power-a c.get_bit-g.result c.get_bit-g.ensures c.if-n-v.false in (
       omega (arith, small, c.step_bits-b.ensures),
       omega (arith, small, c.step_bits-b.ensures),
       omega arith,
-      on (goal.at.loop-v-preserved c).After-power-a c.get_bit-g.result c.get_bit-g.ensures c.if-n-v.false c.if-g-eq0.false,
+      on (goal.at.loop_v_preserved c).After-power-a c.get_bit-g.result c.get_bit-g.ensures c.if-n-v.false c.if-g-eq0.false,
     )

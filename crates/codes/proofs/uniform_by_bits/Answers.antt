@@ -69,23 +69,23 @@ returns-then-max-ge2147483648 c =
     c.refuse.ensures ∙ sym (left _ _ _ (lt-leb a.max 1 (search rules)) ∙ taken _ _ _ (le-leb (2 ^ 31) a.max (search rules)))
 
 -- as the definition has it, since the bits may run out
-pub overflow_sub-l : goal.overflow_sub-l
-overflow_sub-l c = (forms (goal.at.overflow_sub-l c).After-uniform_forms-f).0
+pub overflow_sub_l : goal.overflow_sub_l
+overflow_sub_l c = (forms (goal.at.overflow_sub_l c).After-uniform_forms-f).0
 
 pub returns-then-v-m : goal.returns-then-v-m
 returns-then-v-m c =
     short (goal.at.returns-then-v-m c).After-uniform_forms-f c.read_bits-r.result c.read_bits-r.ensures (search rules)
 
-pub overflow_mul-result : goal.overflow_mul-result
-overflow_mul-result c =
-    let v = value_lt (goal.at.overflow_mul-result c).After-uniform_forms-f c.read_bits-r.result c.read_bits-r.ensures in
+pub overflow_mul_result : goal.overflow_mul_result
+overflow_mul_result c =
+    let v = value_lt (goal.at.overflow_mul_result c).After-uniform_forms-f c.read_bits-r.result c.read_bits-r.ensures in
     omega (arith, v.0, v.1, c)
 
-pub overflow_add-result : goal.overflow_add-result
-overflow_add-result c =
+pub overflow_add_result : goal.overflow_add_result
+overflow_add_result c =
     let b = c.get_bit-b in
-    let v = value_lt (goal.at.overflow_add-result c).After-uniform_forms-f c.read_bits-r.result c.read_bits-r.ensures in
-    omega (arith, v.0, v.1, bit_lt (s (goal.at.overflow_add-result c).After-uniform_forms-f) c.read_bits-r.result.next, ap (λ (x : Number). x.value) b.ensures, c)
+    let v = value_lt (goal.at.overflow_add_result c).After-uniform_forms-f c.read_bits-r.result c.read_bits-r.ensures in
+    omega (arith, v.0, v.1, bit_lt (s (goal.at.overflow_add_result c).After-uniform_forms-f) c.read_bits-r.result.next, ap (λ (x : Number). x.value) b.ensures, c)
 
 pub returns : goal.returns
 returns c =

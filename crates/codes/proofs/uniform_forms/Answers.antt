@@ -22,14 +22,14 @@ module _ (c : goal.Start) where
       let f = ap (λ (x : ℕ). 2 ^ x) e in
       (omega (arith, l.2, f), omega (arith, l.3, f), pow_mono {j = 32} (omega arith))
 
-pub overflow_sub-bits : goal.overflow_sub-bits
-overflow_sub-bits c = leading_le 32 c.args.max
+pub overflow_sub_bits : goal.overflow_sub_bits
+overflow_sub_bits c = leading_le 32 c.args.max
 
-pub overflow_sub-result : goal.overflow_sub-result
-overflow_sub-result c = rw (power c) (omega (arith, (near c).0))
+pub overflow_sub_result : goal.overflow_sub_result
+overflow_sub_result c = rw (power c) (omega (arith, (near c).0))
 
-pub overflow_cast-result-3 : goal.overflow_cast-result-3
-overflow_cast-result-3 c = rw (power c) (omega (arith, (near c).1, (near c).2))
+pub overflow_cast_result_3 : goal.overflow_cast_result_3
+overflow_cast_result_3 c = rw (power c) (omega (arith, (near c).1, (near c).2))
 
 pub returns : goal.returns
 returns c = rw (power c) (refl, refl)

@@ -73,15 +73,15 @@ one_bit : bit_length 1 ≡ 1
 unfolding count_leading_zeros
 one_bit = refl
 
-pub overflow_sub-w : goal.overflow_sub-w
-overflow_sub-w c = omega (arith, c.uniform_forms-f.ensures.0)
+pub overflow_sub_w : goal.overflow_sub_w
+overflow_sub_w c = omega (arith, c.uniform_forms-f.ensures.0)
 
-pub overflow_shr-w : goal.overflow_shr-w
-overflow_shr-w c = omega arith
+pub overflow_shr_w : goal.overflow_shr_w
+overflow_shr_w c = omega arith
 
 -- the first bits of the word fit again
-pub overflow_cast-w-3 : goal.overflow_cast-w-3
-overflow_cast-w-3 c = record { fits = lt_of_le_of_lt (div-le_self c.args.word (2 ^ (32 - c.uniform_forms-f.result.bits))) c.ranges.word.fits }
+pub overflow_cast_w_3 : goal.overflow_cast_w_3
+overflow_cast_w_3 c = record { fits = lt_of_le_of_lt (div-le_self c.args.word (2 ^ (32 - c.uniform_forms-f.result.bits))) c.ranges.word.fits }
 
 pub returns-then-w-f : goal.returns-then-w-f
 returns-then-w-f c =
@@ -106,8 +106,8 @@ returns-then-w-f c =
       most = omega (arith, c.less_one.ensures, e.0);
     }
 
-pub overflow_sub-result : goal.overflow_sub-result
-overflow_sub-result c = omega (arith, c.if-w-f.false)
+pub overflow_sub_result : goal.overflow_sub_result
+overflow_sub_result c = omega (arith, c.if-w-f.false)
 
 pub returns : goal.returns
 returns c =

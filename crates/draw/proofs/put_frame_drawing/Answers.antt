@@ -11,13 +11,13 @@ pub returns-then-is_refusal : goal.returns-then-is_refusal
 unfolding frame_draw_text then word
 returns-then-is_refusal c = rw (← c.frame_request-r.ensures, ← c.is_refusal.ensures, c.if-is_refusal.true, ← c.number.ensures) (within (omega arith) c.put_refusal.ensures)
 
-pub slice_bounds-title-end : goal.slice_bounds-title-end
-slice_bounds-title-end c =
+pub slice_bounds_title_end : goal.slice_bounds_title_end
+slice_bounds_title_end c =
     let p = also c.put_frame-args.ensures c.put_read-all.ensures in
     omega (arith, (stands (omega (arith, room)) p).0.0, kept p, room)
 
-pub slice_bounds-put_drawing-end : goal.slice_bounds-put_drawing-end
-slice_bounds-put_drawing-end c = (stands (omega (arith, room)) (also c.put_frame-args.ensures c.put_read-all.ensures)).0.1
+pub slice_bounds_put_drawing_end : goal.slice_bounds_put_drawing_end
+slice_bounds_put_drawing_end c = (stands (omega (arith, room)) (also c.put_frame-args.ensures c.put_read-all.ensures)).0.1
 
 pub returns : goal.returns
 unfolding frame_draw_text then

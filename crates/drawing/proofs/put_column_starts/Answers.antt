@@ -10,32 +10,32 @@ use Rattle.rectangles.specs.Rectangles.{each}
 use Rattle.text.proofs.Puts.{none, also, within, kept}
 use Rattle.drawing.proofs.put_column_starts.Goals as goal
 
-pub loop-i-init : goal.loop-i-init
+pub loop_i_init : goal.loop_i_init
 unfolding each
-loop-i-init c = (search rules, none _ _)
+loop_i_init c = (search rules, none _ _)
 
-pub overflow_mul-i : goal.overflow_mul-i
-overflow_mul-i c = omega (arith, c.requires.1)
+pub overflow_mul_i : goal.overflow_mul_i
+overflow_mul_i c = omega (arith, c.requires.1)
 
-pub rect_at-requires : goal.rect_at-requires
-rect_at-requires c = omega (arith, c.requires.2, c.loop-i-test.true)
+pub rect_at_requires : goal.rect_at_requires
+rect_at_requires c = omega (arith, c.requires.2, c.loop-i-test.true)
 
-pub column-requires : goal.column-requires
-column-requires c = (c.requires.0, omega (arith, c.requires.1, c.loop-i-test.true))
+pub column_requires : goal.column_requires
+column_requires c = (c.requires.0, omega (arith, c.requires.1, c.loop-i-test.true))
 
-pub put_above-next-requires : goal.put_above-next-requires
-put_above-next-requires c = c.requires.0.unit
+pub put_above_next_requires : goal.put_above_next_requires
+put_above_next_requires c = c.requires.0.unit
 
-pub loop-i-preserved : goal.loop-i-preserved
-loop-i-preserved c =
+pub loop_i_preserved : goal.loop_i_preserved
+loop_i_preserved c =
     let a = c.args in (
       search rules,
       rw (← each_more (λ k. above_text a.v.unit (column_of a.v k (take 4 (drop (4 * k) a.xs.now))) (get_or a.starts.now k 0)) c.loop-i.i)
           (within (omega arith) (also c.loop-i.invariant.1 (rw (c.start_at.ensures, c.column.ensures.0, c.rect_at.ensures) at c.put_above-next.ensures))),
     )
 
-pub shape_of-out : goal.shape_of-out
-shape_of-out c = kept c.loop-i.invariant.1
+pub shape_of_out : goal.shape_of_out
+shape_of_out c = kept c.loop-i.invariant.1
 
 pub returns : goal.returns
 returns c =

@@ -6,9 +6,9 @@ use Rattle.rectangles.specs.Rectangles.{each}
 use Rattle.text.specs.Text.{Put}
 use Rattle.drawing.proofs.put_column_starts.Given as goal
 
-abbrev pub invariant-loop-i : goal.invariant-loop-i
-invariant-loop-i l =
+abbrev pub invariant_loop_i : goal.invariant_loop_i
+invariant_loop_i l =
     (l.i ≤ l.cols) × Put (260 * l.i) l.initial.out l.at (each l.i λ k. above_text l.v.unit (column_of l.v k (take 4 (drop (4 * k) l.xs))) (get_or l.starts k 0)) l.out l.next
 
-abbrev pub decreases-loop-i : goal.decreases-loop-i
-decreases-loop-i l = l.cols - l.i
+abbrev pub decreases_loop_i : goal.decreases_loop_i
+decreases_loop_i l = l.cols - l.i

@@ -9,8 +9,8 @@ use Rattle.rectangles.proofs.Each.{each_same}
 use Rattle.text.proofs.Puts.{also, within}
 use Rattle.drawing.proofs.put_columns.Goals as goal
 
-pub put_above-requires : goal.put_above-requires
-put_above-requires c = c.requires.0.unit
+pub put_above_requires : goal.put_above_requires
+put_above_requires c = c.requires.0.unit
 
 pub returns : goal.returns
 unfolding columns_text

@@ -51,21 +51,21 @@ returns-then-is_refusal c =
     let called = rw (to_z-of_z c.ranges.w, to_z-of_z c.ranges.h) at c.tile_rectangles-answer.ensures.out_after in
     rw (none a.t a.sb128 (unsigned a.w) (unsigned a.h) _ _ called (sym c.is_refusal.ensures ∙ c.if-is_refusal.true)) (within (omega arith) c.put_refusal.ensures)
 
-pub view_of-v-requires : goal.view_of-v-requires
-view_of-v-requires c =
+pub view_of_v_requires : goal.view_of_v_requires
+view_of_v_requires c =
     let a = c.args in
     let called = rw (to_z-of_z c.ranges.w, to_z-of_z c.ranges.h) at c.tile_rectangles-answer.ensures.out_after in
     let sizes = frame_sizes a.t a.sb128 (unsigned a.w) (unsigned a.h) (has _ _ _ _ _ _ called (sym c.is_refusal.ensures ∙ c.if-is_refusal.false)) in
     (rw (c.not_below_0.ensures, to_z-of_z c.ranges.w) sizes.0, rw (c.not_below_0-2.ensures, to_z-of_z c.ranges.h) sizes.1)
 
-pub side_of-requires : goal.side_of-requires
-side_of-requires c =
+pub side_of_requires : goal.side_of_requires
+side_of_requires c =
     let a = c.args in
     let called = rw (to_z-of_z c.ranges.w, to_z-of_z c.ranges.h) at c.tile_rectangles-answer.ensures.out_after in
     (described a.t a.sb128 (unsigned a.w) (unsigned a.h) (has _ _ _ _ _ _ called (sym c.is_refusal.ensures ∙ c.if-is_refusal.false))).small_code
 
-pub put_picture-requires : goal.put_picture-requires
-put_picture-requires c =
+pub put_picture_requires : goal.put_picture_requires
+put_picture_requires c =
     let a = c.args in
     let called = rw (to_z-of_z c.ranges.w, to_z-of_z c.ranges.h) at c.tile_rectangles-answer.ensures.out_after in
     let accepted = sym c.is_refusal.ensures ∙ c.if-is_refusal.false in

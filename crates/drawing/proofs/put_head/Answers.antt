@@ -5,11 +5,11 @@ use Rattle.text.proofs.Puts.{also, within}
 use Rattle.text.specs.Text.{word}
 use Rattle.drawing.proofs.put_head.Goals as goal
 
-pub overflow_mul-v : goal.overflow_mul-v
-overflow_mul-v c = omega (arith, drawn c.args.v.y c.u32_to_u64.result c.requires.0.down (omega arith))
+pub overflow_mul_v : goal.overflow_mul_v
+overflow_mul_v c = omega (arith, drawn c.args.v.y c.u32_to_u64.result c.requires.0.down (omega arith))
 
-pub overflow_add-height : goal.overflow_add-height
-overflow_add-height c = omega (arith, drawn c.args.v.y c.u32_to_u64.result c.requires.0.down (omega arith), c.greatest-2.ensures, c.requires.0.unit, c.requires.2)
+pub overflow_add_height : goal.overflow_add_height
+overflow_add_height c = omega (arith, drawn c.args.v.y c.u32_to_u64.result c.requires.0.down (omega arith), c.greatest-2.ensures, c.requires.0.unit, c.requires.2)
 
 pub returns : goal.returns
 unfolding head_text word

@@ -6,14 +6,14 @@ use Rattle.text.proofs.Puts.{also, within}
 use Rattle.text.specs.Text.{word}
 use Rattle.drawing.proofs.put_layout.Goals as goal
 
-pub overflow_mul-v : goal.overflow_mul-v
-overflow_mul-v c = omega (arith, drawn c.args.v.x c.u32_to_u64.result c.requires.0.across (omega arith))
+pub overflow_mul_v : goal.overflow_mul_v
+overflow_mul_v c = omega (arith, drawn c.args.v.x c.u32_to_u64.result c.requires.0.across (omega arith))
 
-pub overflow_mul-v-2 : goal.overflow_mul-v-2
-overflow_mul-v-2 c = omega (arith, drawn c.args.v.y c.u32_to_u64-2.result c.requires.0.down (omega arith))
+pub overflow_mul_v_2 : goal.overflow_mul_v_2
+overflow_mul_v_2 c = omega (arith, drawn c.args.v.y c.u32_to_u64-2.result c.requires.0.down (omega arith))
 
-pub overflow_mul-v-3 : goal.overflow_mul-v-3
-overflow_mul-v-3 c = omega (arith, c.requires.0.unit)
+pub overflow_mul_v_3 : goal.overflow_mul_v_3
+overflow_mul_v_3 c = omega (arith, c.requires.0.unit)
 
 pub returns : goal.returns
 unfolding layout_text tiles_text word

@@ -10,20 +10,20 @@ use Rattle.drawing.proofs.put_lines.Goals as goal
 ends : (s : goal.After-slice_known-1) → s.args.side * (s.args.i + 1) ≤ 16384
 ends s = let h : s.args.i + 1 ≤ 64 = omega (arith, s.requires.2) in mul-le-mul s.requires.1 h
 
-pub overflow_mul-n : goal.overflow_mul-n
-overflow_mul-n c = omega (arith, ends c)
+pub overflow_mul_n : goal.overflow_mul_n
+overflow_mul_n c = omega (arith, ends c)
 
-pub overflow_mul-w : goal.overflow_mul-w
-overflow_mul-w c = omega (arith, drawn c.args.v.x c.u32_to_u64.result c.requires.0.across (omega arith))
+pub overflow_mul_w : goal.overflow_mul_w
+overflow_mul_w c = omega (arith, drawn c.args.v.x c.u32_to_u64.result c.requires.0.across (omega arith))
 
-pub overflow_mul-h : goal.overflow_mul-h
-overflow_mul-h c = omega (arith, drawn c.args.v.y c.u32_to_u64-2.result c.requires.0.down (omega arith))
+pub overflow_mul_h : goal.overflow_mul_h
+overflow_mul_h c = omega (arith, drawn c.args.v.y c.u32_to_u64-2.result c.requires.0.down (omega arith))
 
-pub overflow_mul-v : goal.overflow_mul-v
-overflow_mul-v c = omega (arith, drawn c.args.v.x c.u32_to_u64-3.result c.requires.0.across (omega arith))
+pub overflow_mul_v : goal.overflow_mul_v
+overflow_mul_v c = omega (arith, drawn c.args.v.x c.u32_to_u64-3.result c.requires.0.across (omega arith))
 
-pub overflow_mul-v-2 : goal.overflow_mul-v-2
-overflow_mul-v-2 c = omega (arith, drawn c.args.v.y c.u32_to_u64-4.result c.requires.0.down (omega arith))
+pub overflow_mul_v_2 : goal.overflow_mul_v_2
+overflow_mul_v_2 c = omega (arith, drawn c.args.v.y c.u32_to_u64-4.result c.requires.0.down (omega arith))
 
 pub returns : goal.returns
 unfolding lines_text

@@ -10,12 +10,12 @@ use Rattle.text.proofs.Puts.{none, also, within, kept}
 use Rattle.text.specs.Text.{mark, filled}
 use Rattle.drawing.proofs.put_marked.Goals as goal
 
-pub loop-i-init : goal.loop-i-init
+pub loop_i_init : goal.loop_i_init
 unfolding filled marks
-loop-i-init c = ((search rules, search rules), refl, within (omega arith) (none _ _))
+loop_i_init c = ((search rules, search rules), refl, within (omega arith) (none _ _))
 
-pub loop-i-preserved : goal.loop-i-preserved
-loop-i-preserved c =
+pub loop_i_preserved : goal.loop_i_preserved
+loop_i_preserved c =
     let t = c.args.template.now in
     let xs = c.args.xs.now in
     let more = c.loop-i-test.true in
@@ -28,5 +28,5 @@ loop-i-preserved c =
 pub returns : goal.returns
 returns c = within (omega (arith, c.loop-i.invariant.0.0)) (rw (take_all _ _ c.loop-i-test.false) at c.loop-i.invariant.2)
 
-pub shape_of-out : goal.shape_of-out
-shape_of-out c = kept c.loop-i.invariant.2
+pub shape_of_out : goal.shape_of_out
+shape_of_out c = kept c.loop-i.invariant.2

@@ -29,5 +29,5 @@ returns c =
     (within (omega arith)
     (also (also (also (also (also (also c.put_head-head.ensures c.put_note-note.ensures) c.put_grid-grid.ensures) c.put_layout-layout.ensures) c.put_columns-above.ensures) c.put_rows-left.ensures) c.put_word.ensures))
 
-pub shape_of-out : goal.shape_of-out
-shape_of-out c = kept (returns c)
+pub shape_of_out : goal.shape_of_out
+shape_of_out c = kept (returns c)

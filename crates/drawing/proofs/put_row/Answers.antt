@@ -14,32 +14,32 @@ use Rattle.drawing.proofs.put_row.Goals as goal
 before : {j cols : ℕ} → j < 64 → cols ≤ 64 → j * cols ≤ 4096
 before {j} h n = let l : j ≤ 64 = omega arith in mul-le-mul l n
 
-pub loop-i-init : goal.loop-i-init
+pub loop_i_init : goal.loop_i_init
 unfolding each
-loop-i-init c = (search rules, none _ _)
+loop_i_init c = (search rules, none _ _)
 
-pub overflow_mul-k : goal.overflow_mul-k
-overflow_mul-k c = omega (arith, before c.requires.2 c.requires.1)
+pub overflow_mul_k : goal.overflow_mul_k
+overflow_mul_k c = omega (arith, before c.requires.2 c.requires.1)
 
-pub overflow_add-k : goal.overflow_add-k
-overflow_add-k c = omega (arith, before c.requires.2 c.requires.1, c.requires.1)
+pub overflow_add_k : goal.overflow_add_k
+overflow_add_k c = omega (arith, before c.requires.2 c.requires.1, c.requires.1)
 
-pub overflow_mul-k-in-loop-i : goal.overflow_mul-k-in-loop-i
-overflow_mul-k-in-loop-i c = omega (arith, before c.requires.2 c.requires.1, c.requires.1)
+pub overflow_mul_k_in_loop_i : goal.overflow_mul_k_in_loop_i
+overflow_mul_k_in_loop_i c = omega (arith, before c.requires.2 c.requires.1, c.requires.1)
 
-pub rect_at-requires : goal.rect_at-requires
-rect_at-requires c = omega (arith, c.requires.3, c.loop-i-test.true)
+pub rect_at_requires : goal.rect_at_requires
+rect_at_requires c = omega (arith, c.requires.3, c.loop-i-test.true)
 
-pub put_tile-next-requires : goal.put_tile-next-requires
-put_tile-next-requires c = (c.requires.0, omega (arith, c.requires.1, c.loop-i-test.true), c.requires.2)
+pub put_tile_next_requires : goal.put_tile_next_requires
+put_tile_next_requires c = (c.requires.0, omega (arith, c.requires.1, c.loop-i-test.true), c.requires.2)
 
-pub loop-i-preserved : goal.loop-i-preserved
-loop-i-preserved c =
+pub loop_i_preserved : goal.loop_i_preserved
+loop_i_preserved c =
     let a = c.args in
     (search rules, rw (← each_more (λ k. tile_text a.v k a.j (a.j * a.cols + k) (rect_of a.xs.now a.cols k a.j)) c.loop-i.i) (within (omega arith) (also c.loop-i.invariant.1 (rw c.rect_at.ensures at c.put_tile-next.ensures))))
 
-pub shape_of-out : goal.shape_of-out
-shape_of-out c = kept c.loop-i.invariant.1
+pub shape_of_out : goal.shape_of_out
+shape_of_out c = kept c.loop-i.invariant.1
 
 pub returns : goal.returns
 returns c =

@@ -17,35 +17,35 @@ room j cols rows most c r some h l =
     let k : j ≤ 64 = omega arith in
     (omega (arith, mul-le-mul_right {m = j + 1} {n = rows} cols (omega arith), add-mul j 1 cols), mul-le-mul k c)
 
-pub loop-j-init : goal.loop-j-init
+pub loop_j_init : goal.loop_j_init
 unfolding each
-loop-j-init c = (search rules, none _ _)
+loop_j_init c = (search rules, none _ _)
 
-pub overflow_mul-j : goal.overflow_mul-j
-overflow_mul-j c = omega (arith, (room _ _ _ _ c.requires.1 c.requires.2 c.requires.3 c.requires.4 c.loop-j-test.true).1)
+pub overflow_mul_j : goal.overflow_mul_j
+overflow_mul_j c = omega (arith, (room _ _ _ _ c.requires.1 c.requires.2 c.requires.3 c.requires.4 c.loop-j-test.true).1)
 
-pub overflow_mul-j-in-loop-j : goal.overflow_mul-j-in-loop-j
-overflow_mul-j-in-loop-j c = omega (arith, (room _ _ _ _ c.requires.1 c.requires.2 c.requires.3 c.requires.4 c.loop-j-test.true).1)
+pub overflow_mul_j_in_loop_j : goal.overflow_mul_j_in_loop_j
+overflow_mul_j_in_loop_j c = omega (arith, (room _ _ _ _ c.requires.1 c.requires.2 c.requires.3 c.requires.4 c.loop-j-test.true).1)
 
-pub rect_at-requires : goal.rect_at-requires
-rect_at-requires c = (room _ _ _ _ c.requires.1 c.requires.2 c.requires.3 c.requires.4 c.loop-j-test.true).0
+pub rect_at_requires : goal.rect_at_requires
+rect_at_requires c = (room _ _ _ _ c.requires.1 c.requires.2 c.requires.3 c.requires.4 c.loop-j-test.true).0
 
-pub row-requires : goal.row-requires
-row-requires c = (c.requires.0, omega (arith, c.requires.2, c.loop-j-test.true))
+pub row_requires : goal.row_requires
+row_requires c = (c.requires.0, omega (arith, c.requires.2, c.loop-j-test.true))
 
-pub put_left-next-requires : goal.put_left-next-requires
-put_left-next-requires c = c.requires.0.unit
+pub put_left_next_requires : goal.put_left_next_requires
+put_left_next_requires c = c.requires.0.unit
 
-pub loop-j-preserved : goal.loop-j-preserved
-loop-j-preserved c =
+pub loop_j_preserved : goal.loop_j_preserved
+loop_j_preserved c =
     let a = c.args in (
       search rules,
       rw (← each_more (λ k. left_text a.v.unit (row_of a.v k (take 4 (drop (4 * (k * a.cols)) a.xs.now))) (get_or a.starts.now k 0)) c.loop-j.j)
           (within (omega arith) (also c.loop-j.invariant.1 (rw (c.start_at.ensures, c.row.ensures.0, c.rect_at.ensures) at c.put_left-next.ensures))),
     )
 
-pub shape_of-out : goal.shape_of-out
-shape_of-out c = kept c.loop-j.invariant.1
+pub shape_of_out : goal.shape_of_out
+shape_of_out c = kept c.loop-j.invariant.1
 
 pub returns : goal.returns
 returns c =

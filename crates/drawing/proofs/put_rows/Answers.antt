@@ -9,8 +9,8 @@ use Rattle.rectangles.proofs.Each.{each_same}
 use Rattle.text.proofs.Puts.{also, within}
 use Rattle.drawing.proofs.put_rows.Goals as goal
 
-pub put_left-requires : goal.put_left-requires
-put_left-requires c = c.requires.0.unit
+pub put_left_requires : goal.put_left_requires
+put_left_requires c = c.requires.0.unit
 
 pub returns : goal.returns
 unfolding rows_text

@@ -5,14 +5,14 @@ use Rattle.drawing.proofs.Products.{drawn, placed}
 use Rattle.drawing.specs.View.{span_of}
 use Rattle.drawing.proofs.span_of.Goals as goal
 
-pub overflow_mul-result : goal.overflow_mul-result
-overflow_mul-result c = omega (arith, drawn c.args.scale c.u32_to_u64.result (omega arith) (omega arith))
+pub overflow_mul_result : goal.overflow_mul_result
+overflow_mul_result c = omega (arith, drawn c.args.scale c.u32_to_u64.result (omega arith) (omega arith))
 
-pub overflow_mul-result-then-reach-eq0-2 : goal.overflow_mul-result-then-reach-eq0-2
-overflow_mul-result-then-reach-eq0-2 c = omega (arith, placed c.args.unit c.args.i (omega arith) (omega arith))
+pub overflow_mul_result_then_reach_eq0_2 : goal.overflow_mul_result_then_reach_eq0_2
+overflow_mul_result_then_reach_eq0_2 c = omega (arith, placed c.args.unit c.args.i (omega arith) (omega arith))
 
-pub overflow_add-result : goal.overflow_add-result
-overflow_add-result c = omega (arith, drawn c.args.scale c.u32_to_u64.result (omega arith) (omega arith), placed c.args.unit c.args.i (omega arith) (omega arith))
+pub overflow_add_result : goal.overflow_add_result
+overflow_add_result c = omega (arith, drawn c.args.scale c.u32_to_u64.result (omega arith) (omega arith), placed c.args.unit c.args.i (omega arith) (omega arith))
 
 pub returns-then-reach-eq0 : goal.returns-then-reach-eq0
 unfolding span_of
@@ -22,11 +22,11 @@ returns-then-reach-eq0 c =
     let more = placed a.unit a.i (omega arith) (omega arith) in
     rw (c.if-reach-eq0.true, ← c.u32_to_u64.ensures.0) (refl, record { at = omega arith; size = omega arith })
 
-pub overflow_mul-result-2 : goal.overflow_mul-result-2
-overflow_mul-result-2 c = omega (arith, drawn c.args.scale c.u32_to_u64-2.result (omega arith) (omega arith))
+pub overflow_mul_result_2 : goal.overflow_mul_result_2
+overflow_mul_result_2 c = omega (arith, drawn c.args.scale c.u32_to_u64-2.result (omega arith) (omega arith))
 
-pub overflow_mul-result-3 : goal.overflow_mul-result-3
-overflow_mul-result-3 c = omega (arith, drawn c.args.scale c.u32_to_u64-3.result (omega arith) (omega arith))
+pub overflow_mul_result_3 : goal.overflow_mul_result_3
+overflow_mul_result_3 c = omega (arith, drawn c.args.scale c.u32_to_u64-3.result (omega arith) (omega arith))
 
 pub returns : goal.returns
 unfolding span_of

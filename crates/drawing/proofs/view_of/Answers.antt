@@ -4,11 +4,11 @@ use Rattle.drawing.proofs.Products.{stretched}
 use Rattle.drawing.specs.View.{view_of}
 use Rattle.drawing.proofs.view_of.Goals as goal
 
-pub overflow_mul-u32_to_u64 : goal.overflow_mul-u32_to_u64
-overflow_mul-u32_to_u64 c = omega (arith, stretched c.u32_to_u64.result c.stretch-across.result (omega arith) (omega arith))
+pub overflow_mul_u32_to_u64 : goal.overflow_mul_u32_to_u64
+overflow_mul_u32_to_u64 c = omega (arith, stretched c.u32_to_u64.result c.stretch-across.result (omega arith) (omega arith))
 
-pub overflow_mul-u32_to_u64-2 : goal.overflow_mul-u32_to_u64-2
-overflow_mul-u32_to_u64-2 c = omega (arith, stretched c.u32_to_u64-2.result c.stretch-down.result (omega arith) (omega arith))
+pub overflow_mul_u32_to_u64_2 : goal.overflow_mul_u32_to_u64_2
+overflow_mul_u32_to_u64_2 c = omega (arith, stretched c.u32_to_u64-2.result c.stretch-down.result (omega arith) (omega arith))
 
 pub returns : goal.returns
 unfolding view_of

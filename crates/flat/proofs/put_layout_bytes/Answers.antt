@@ -32,26 +32,26 @@ returns c =
     let info = c.args.info.now in
     stored (bytes (goal.at.returns c).Start) info 9 refl c.if-info-lt9.false ∙ sym (taken _ _ _ (le-leb 9 (length info) c.if-info-lt9.false))
 
-pub bounds-info-1 : goal.bounds-info-1
-bounds-info-1 c = simp length-set (omega arith)
+pub bounds_info_1 : goal.bounds_info_1
+bounds_info_1 c = simp length-set (omega arith)
 
-pub bounds-info-2 : goal.bounds-info-2
-bounds-info-2 c = simp length-set (omega arith)
+pub bounds_info_2 : goal.bounds_info_2
+bounds_info_2 c = simp length-set (omega arith)
 
-pub bounds-info-3 : goal.bounds-info-3
-bounds-info-3 c = simp length-set (omega arith)
+pub bounds_info_3 : goal.bounds_info_3
+bounds_info_3 c = simp length-set (omega arith)
 
-pub bounds-info-4 : goal.bounds-info-4
-bounds-info-4 c = simp length-set (omega arith)
+pub bounds_info_4 : goal.bounds_info_4
+bounds_info_4 c = simp length-set (omega arith)
 
-pub bounds-info-5 : goal.bounds-info-5
-bounds-info-5 c = simp length-set (omega arith)
+pub bounds_info_5 : goal.bounds_info_5
+bounds_info_5 c = simp length-set (omega arith)
 
-pub bounds-info-6 : goal.bounds-info-6
-bounds-info-6 c = simp length-set (omega arith)
+pub bounds_info_6 : goal.bounds_info_6
+bounds_info_6 c = simp length-set (omega arith)
 
-pub bounds-info-7 : goal.bounds-info-7
-bounds-info-7 c = simp length-set (omega arith)
+pub bounds_info_7 : goal.bounds_info_7
+bounds_info_7 c = simp length-set (omega arith)
 
-pub bounds-info-8 : goal.bounds-info-8
-bounds-info-8 c = simp length-set (omega arith)
+pub bounds_info_8 : goal.bounds_info_8
+bounds_info_8 c = simp length-set (omega arith)

@@ -15,8 +15,8 @@ returns c =
     let a = c.args in
     stored (flat_masks a.d) a.out.now 3 refl c.if-out-lt3.false ∙ sym (taken _ _ _ (le-leb 3 (length a.out.now) c.if-out-lt3.false))
 
-pub bounds-out-1 : goal.bounds-out-1
-bounds-out-1 c = simp length-set (omega arith)
+pub bounds_out_1 : goal.bounds_out_1
+bounds_out_1 c = simp length-set (omega arith)
 
-pub bounds-out-2 : goal.bounds-out-2
-bounds-out-2 c = simp length-set (omega arith)
+pub bounds_out_2 : goal.bounds_out_2
+bounds_out_2 c = simp length-set (omega arith)

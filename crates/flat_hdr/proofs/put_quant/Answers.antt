@@ -5,8 +5,8 @@ use Rattle.flat.proofs.Rows.{both, sign_fits, sign_kept}
 use Rattle.flat_hdr.specs.Header.{flat_quant}
 use Rattle.flat_hdr.proofs.put_quant.Goals as goal
 
-pub overflow_cast-q : goal.overflow_cast-q
-overflow_cast-q c = sign_fits w8 w32 c.args.q.base_ydc_dq tt (search rules)
+pub overflow_cast_q : goal.overflow_cast_q
+overflow_cast_q c = sign_fits w8 w32 c.args.q.base_ydc_dq tt (search rules)
 
 pub returns : goal.returns
 unfolding flat_quant

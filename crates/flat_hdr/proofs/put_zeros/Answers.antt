@@ -1,5 +1,4 @@
 use mathlib.Core.Path.{sym, ◌∙◌}
-use Prim.Native.Nat.{◌-◌}
 use native.Mathlib.Omega.{arith}
 use borrow.Author.Tests.{le-leb}
 use lib.IntN.{pos}
@@ -11,20 +10,20 @@ use Rattle.flat_hdr.proofs.put_zeros.Goals as goal
 pub returns-then-out-lt146 : goal.returns-then-out-lt146
 returns-then-out-lt146 c = kept 146 (replicate 146 (pos 0)) c.args.out.now c.if-out-lt146.true
 
-pub loop-i-init : goal.loop-i-init
-loop-i-init c = begun _ _ _
+pub loop_i_init : goal.loop_i_init
+loop_i_init c = begun _ _ _
 
-pub slice_set_of-out : goal.slice_set_of-out
-slice_set_of-out c = omega (arith, c.loop-i.invariant.long, c.if-out-lt146.false)
+pub slice_set_of_out : goal.slice_set_of_out
+slice_set_of_out c = omega (arith, c.loop-i.invariant.long, c.if-out-lt146.false)
 
-pub loop-i-preserved : goal.loop-i-preserved
-loop-i-preserved c =
+pub loop_i_preserved : goal.loop_i_preserved
+loop_i_preserved c =
     let o = c.args.out.now in
     let long = length-replicate 146 (pos 0) in
     front_turned o (replicate 146 (pos 0)) (omega (arith, long, c.if-out-lt146.false)) c.loop-i.out c.loop-i.i (pos 0) (pos 0) (omega (arith, long, c.loop-i-test.true)) (sym (get_or-replicate 146 c.loop-i.i (pos 0) (pos 0) c.loop-i-test.true)) c.loop-i.invariant
 
-pub shape_of-out : goal.shape_of-out
-shape_of-out c = c.loop-i.invariant.long
+pub shape_of_out : goal.shape_of_out
+shape_of_out c = c.loop-i.invariant.long
 
 pub returns : goal.returns
 returns c =

@@ -5,4 +5,4 @@ use Rattle.frame.proofs.frame_text.Goals as goal
 
 pub returns : goal.returns
 unfolding frame_text
-returns c = rw (← c.frame_request.ensures) (stands (search rules) c.put_frame_read.ensures)
+returns c = record { prefix_len = (stands (search rules) c.put_frame_read.ensures).0; out_after = rw (← c.frame_request.ensures) (stands (search rules) c.put_frame_read.ensures).1 }

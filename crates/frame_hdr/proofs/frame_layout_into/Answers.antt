@@ -36,7 +36,7 @@ returns-then-not-has_room-clause-after_after c =
     let h = frame_in a.frame_type a.width a.height a.sb128 own in
     let q = seq_in a.seq_sb128 a.max_width a.max_height a.level a.tier a.present theirs in
     let lacks = sym c.has_room.ensures ∙ c.if-not-has_room.true in
-    rw c.unread.ensures (sym (left _ _ _ (first_fails (has_room own) (has_room theirs) lacks)))
+    sym (left _ _ _ (first_fails (has_room own) (has_room theirs) lacks))
 
 pub returns-then-not-has_room-2-clause-after_after : goal.returns-then-not-has_room-2-clause-after_after
 unfolding parse_tile_info_frmhdr_into
@@ -48,7 +48,7 @@ returns-then-not-has_room-2-clause-after_after c =
     let h = frame_in a.frame_type a.width a.height a.sb128 own in
     let q = seq_in a.seq_sb128 a.max_width a.max_height a.level a.tier a.present theirs in
     let lacks = sym c.has_room-2.ensures ∙ c.if-not-has_room-2.true in
-    rw c.unread-then-not-has_room-2.ensures (sym (left _ _ _ (second_fails (has_room own) (has_room theirs) lacks)))
+    sym (left _ _ _ (second_fails (has_room own) (has_room theirs) lacks))
 
 pub returns-then-not-sized-usable : goal.returns-then-not-sized-usable
 unfolding parse_tile_info_frmhdr_into parse_tile_info_frmhdr
@@ -66,11 +66,11 @@ returns-then-not-sized-usable c =
     (rw (to_z-of_z c.ranges.max_width, to_z-of_z c.ranges.max_height) at c.is_usable-usable.ensures)
     c.if-not-sized-usable.true in
     let w = what-is-left a.s.now a.p own theirs h q refl
-    (rw c.unread-then-not-sized-usable.ensures (sym (taken _ _ _ (both_hold own_room their_room) ∙ ap (λ (z : FrameRead). frame_into z own) (left _ _ _ inside)))) refl refl in
+    (rw c.unread.ensures (sym (taken _ _ _ (both_hold own_room their_room) ∙ ap (λ (z : FrameRead). frame_into z own) (left _ _ _ inside)))) refl refl in
     record { after_after = w.0; fact = w.1.0; fact_2 = w.1.1 }
 
-pub reuse_allowed-allowed-requires-clause-a_value : goal.reuse_allowed-allowed-requires-clause-a_value
-reuse_allowed-allowed-requires-clause-a_value c =
+pub reuse_allowed_allowed_requires_clause_a_value : goal.reuse_allowed_allowed_requires_clause_a_value
+reuse_allowed_allowed_requires_clause_a_value c =
     let a = c.args in
     -- the buffers lent, and the records in them
     let own = buffers a.info.now a.cols.now a.rows.now in
@@ -84,8 +84,8 @@ reuse_allowed-allowed-requires-clause-a_value c =
     let made : c.frame_args-a.result ≡ frame_args h q = rw (to_z-of_z c.ranges.width, to_z-of_z c.ranges.height) at c.frame_args-a.ensures in
     ap in_domain made ∙ frame_in_domain h q inside
 
-pub reuse_allowed-allowed-requires-clause-log2_cols_bound : goal.reuse_allowed-allowed-requires-clause-log2_cols_bound
-reuse_allowed-allowed-requires-clause-log2_cols_bound c =
+pub reuse_allowed_allowed_requires_clause_log2_cols_bound : goal.reuse_allowed_allowed_requires_clause_log2_cols_bound
+reuse_allowed_allowed_requires_clause_log2_cols_bound c =
     let a = c.args in
     -- the buffers lent, and the records in them
     let own = buffers a.info.now a.cols.now a.rows.now in
@@ -98,11 +98,11 @@ reuse_allowed-allowed-requires-clause-log2_cols_bound c =
     (rw (to_z-of_z c.ranges.max_width, to_z-of_z c.ranges.max_height) at c.is_usable-usable.ensures)
     c.if-not-sized-usable.false in
     λ on.
-        let t = in_buffers q theirs their_room refl ((known q (frame_usable h q inside)).tiled on) in
-        ((usable_tiles_lem _ _ _ t.cols).small, (usable_tiles_lem _ _ _ t.rows).small)
+    let t = in_buffers q theirs their_room refl ((known q (frame_usable h q inside)).tiled on) in
+    ((usable_tiles_lem _ _ _ t.cols).small, (usable_tiles_lem _ _ _ t.rows).small)
 
-pub reused_layout-requires-clause-a_value : goal.reused_layout-requires-clause-a_value
-reused_layout-requires-clause-a_value c =
+pub reused_layout_requires_clause_a_value : goal.reused_layout_requires_clause_a_value
+reused_layout_requires_clause_a_value c =
     let a = c.args in
     -- the buffers lent, and the records in them
     let own = buffers a.info.now a.cols.now a.rows.now in
@@ -116,8 +116,8 @@ reused_layout-requires-clause-a_value c =
     let made : c.frame_args-a.result ≡ frame_args h q = rw (to_z-of_z c.ranges.width, to_z-of_z c.ranges.height) at c.frame_args-a.ensures in
     ap in_domain made ∙ frame_in_domain h q inside
 
-pub reused_layout-requires-clause-seq_cols_value : goal.reused_layout-requires-clause-seq_cols_value
-reused_layout-requires-clause-seq_cols_value c =
+pub reused_layout_requires_clause_seq_cols_value : goal.reused_layout_requires_clause_seq_cols_value
+reused_layout_requires_clause_seq_cols_value c =
     let a = c.args in
     -- the buffers lent, and the records in them
     let own = buffers a.info.now a.cols.now a.rows.now in
@@ -138,8 +138,8 @@ reused_layout-requires-clause-seq_cols_value c =
     let tiled = in_buffers q theirs their_room refl (reused_tiled c.frame_args-a.result q (frame_usable h q inside) (sym allowed ∙ only)) in
     tiled.cols
 
-pub reused_layout-requires-clause-seq_rows_value : goal.reused_layout-requires-clause-seq_rows_value
-reused_layout-requires-clause-seq_rows_value c =
+pub reused_layout_requires_clause_seq_rows_value : goal.reused_layout_requires_clause_seq_rows_value
+reused_layout_requires_clause_seq_rows_value c =
     let a = c.args in
     -- the buffers lent, and the records in them
     let own = buffers a.info.now a.cols.now a.rows.now in
@@ -185,8 +185,8 @@ returns-then-reuse c =
     let w = what-is-left a.s.now a.p own theirs h q refl (put ∙ sym (taken _ _ _ (both_hold own_room their_room))) c.reused_layout.auto.cols c.reused_layout.auto.rows in
     record { after_after = w.0; fact = w.1.0; fact_2 = w.1.1 }
 
-pub fresh_layout-requires-clause-a_value : goal.fresh_layout-requires-clause-a_value
-fresh_layout-requires-clause-a_value c =
+pub fresh_layout_requires_clause_a_value : goal.fresh_layout_requires_clause_a_value
+fresh_layout_requires_clause_a_value c =
     let a = c.args in
     -- the buffers lent, and the records in them
     let own = buffers a.info.now a.cols.now a.rows.now in

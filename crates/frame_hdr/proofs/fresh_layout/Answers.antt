@@ -32,8 +32,8 @@ module _ (z : TileRead) (b : Buffers) (old code : ℕ) {o : TileOutcome} {after 
       let refusal = sym (ap (λ (x : TileOutcome). is_refusal x.answer) outcome) ∙ sym e ∙ f in
       (rw (outcome, g, refusal) refl, ap (λ (x : TileOutcome × Buffers). x.1) put)
 
-pub overflow_cast-a : goal.overflow_cast-a
-overflow_cast-a c =
+pub overflow_cast_a : goal.overflow_cast_a
+overflow_cast_a c =
     let small : c.args.a.multiplier < 2 ^ 31 = lt_of_le_of_lt (low_multiplier c.args.a (domain c.args.a c.requires.a_value)) (lit< tt) in
     record { sfits = small }
 

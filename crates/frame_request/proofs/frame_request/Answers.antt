@@ -19,31 +19,31 @@ use Rattle.frame_request.proofs.frame_request.Goals as goal
 pub returns-then-not-is_request : goal.returns-then-not-is_request
 unfolding frame_request
 returns-then-not-is_request c =
-    c.no_frame.ensures ∙ sym (left _ _ _ (sym c.is_request.ensures ∙ not-true _ c.if-not-is_request.true))
+    c.no_frame.ensures ∙ sym (left _ _ _ (sym c.is_request.ensures ∙ c.if-not-is_request.true))
 
 pub returns-then-is_refusal : goal.returns-then-is_refusal
 unfolding frame_request
 returns-then-is_refusal c =
-    let good : is_frame_request c.args.s.now ≡ true = sym c.is_request.ensures ∙ not-false _ c.if-not-is_request.false in
+    let good : is_frame_request c.args.s.now ≡ true = sym c.is_request.ensures ∙ c.if-not-is_request.false in
     c.no_frame-then-is_refusal.ensures
     ∙ sym (taken _ _ _ (good) ∙ through _ _ c.request_header-q.ensures ∙ taken _ _ _ (sym c.is_refusal.ensures ∙ c.if-is_refusal.true))
 
-pub slice_bounds-parse_tile_info_frmhdr-count : goal.slice_bounds-parse_tile_info_frmhdr-count
-slice_bounds-parse_tile_info_frmhdr-count c =
-    let good : is_frame_request c.args.s.now ≡ true = sym c.is_request.ensures ∙ not-false _ c.if-not-is_request.false in
+pub slice_bounds_parse_tile_info_frmhdr_count : goal.slice_bounds_parse_tile_info_frmhdr_count
+slice_bounds_parse_tile_info_frmhdr_count c =
+    let good : is_frame_request c.args.s.now ≡ true = sym c.is_request.ensures ∙ c.if-not-is_request.false in
     let there : let s = c.args.s.now in (c.two_at-bits.result ≡ two_at s 0) × (frame_at s + 5 ≤ length s) = (c.two_at-bits.ensures.0, long c.args.s.now (good)) in
     omega (arith, (there).0, (there).1)
 
-pub slice_bounds-parse_tile_info_frmhdr-start : goal.slice_bounds-parse_tile_info_frmhdr-start
-slice_bounds-parse_tile_info_frmhdr-start c =
-    let good : is_frame_request c.args.s.now ≡ true = sym c.is_request.ensures ∙ not-false _ c.if-not-is_request.false in
+pub slice_bounds_parse_tile_info_frmhdr_start : goal.slice_bounds_parse_tile_info_frmhdr_start
+slice_bounds_parse_tile_info_frmhdr_start c =
+    let good : is_frame_request c.args.s.now ≡ true = sym c.is_request.ensures ∙ c.if-not-is_request.false in
     let there : let s = c.args.s.now in (c.two_at-bits.result ≡ two_at s 0) × (frame_at s + 5 ≤ length s) = (c.two_at-bits.ensures.0, long c.args.s.now (good)) in
     omega (arith, (there).0, (there).1)
 
 pub returns : goal.returns
 unfolding frame_request
 returns c =
-    let good : is_frame_request c.args.s.now ≡ true = sym c.is_request.ensures ∙ not-false _ c.if-not-is_request.false in
+    let good : is_frame_request c.args.s.now ≡ true = sym c.is_request.ensures ∙ c.if-not-is_request.false in
     let there : let s = c.args.s.now in (c.two_at-bits.result ≡ two_at s 0) × (frame_at s + 5 ≤ length s) = (c.two_at-bits.ensures.0, long c.args.s.now (good)) in
     let s = c.args.s.now in
     let g = c.given_frame in
@@ -55,7 +55,7 @@ returns c =
     ∙ ap (λ (x : FrameHeader). parse_tile_info_frmhdr (drop (frame_at s + 5) s) (place_at 0 false) x (seq_layout c.request_header-q.result.hdr)) g.ensures
     ∙ sym (taken _ _ _ (good) ∙ through _ _ c.request_header-q.ensures ∙ left _ _ _ (sym c.is_refusal.ensures ∙ c.if-is_refusal.false))
 
-pub request_header-q-requires : goal.request_header-q-requires
-request_header-q-requires c =
-    let good : is_frame_request c.args.s.now ≡ true = sym c.is_request.ensures ∙ not-false _ c.if-not-is_request.false in
+pub request_header_q_requires : goal.request_header_q_requires
+request_header_q_requires c =
+    let good : is_frame_request c.args.s.now ≡ true = sym c.is_request.ensures ∙ c.if-not-is_request.false in
     good

@@ -9,8 +9,8 @@ use Rattle.seq_hdr.specs.Header.{parse_seq_hdr}
 use Rattle.frame_request.proofs.Long.{long}
 use Rattle.frame_request.proofs.request_header.Goals as goal
 
-pub slice_bounds-parse_seq_hdr-end : goal.slice_bounds-parse_seq_hdr-end
-slice_bounds-parse_seq_hdr-end c =
+pub slice_bounds_parse_seq_hdr_end : goal.slice_bounds_parse_seq_hdr_end
+slice_bounds_parse_seq_hdr_end c =
     omega (arith, long c.args.s.now c.requires, c.two_at-at_frame.ensures.0)
 
 pub returns : goal.returns

@@ -6,12 +6,12 @@ use Rattle.frame_request.proofs.sequence_args.Goals as goal
 
 pub returns-then-not-is_request : goal.returns-then-not-is_request
 unfolding sequence_args
-returns-then-not-is_request c = sym (left _ _ _ (sym c.is_request.ensures ∙ not-true _ c.if-not-is_request.true))
+returns-then-not-is_request c = sym (left _ _ _ (sym c.is_request.ensures ∙ c.if-not-is_request.true))
 
-pub request_header-q-requires : goal.request_header-q-requires
-request_header-q-requires c = sym c.is_request.ensures ∙ not-false _ c.if-not-is_request.false
+pub request_header_q_requires : goal.request_header_q_requires
+request_header_q_requires c = sym c.is_request.ensures ∙ c.if-not-is_request.false
 
 pub returns : goal.returns
 unfolding sequence_args
 returns c =
-    sym (taken _ _ _ (sym c.is_request.ensures ∙ not-false _ c.if-not-is_request.false) ∙ through _ _ c.request_header-q.ensures)
+    sym (taken _ _ _ (sym c.is_request.ensures ∙ c.if-not-is_request.false) ∙ through _ _ c.request_header-q.ensures)

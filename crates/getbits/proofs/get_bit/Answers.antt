@@ -17,8 +17,8 @@ returns-then-used-ge8 c =
     let a = c.args in
     c.exhausted-then-used-ge8.ensures ∙ read_short a.s.now a.p 1 (omega (arith, pos_over a.s.now a.p (search rules)))
 
-pub overflow_cast-b : goal.overflow_cast-b
-overflow_cast-b c = omega (arith, c.shared_slice_known-2-1.given c.args.p.byte)
+pub overflow_cast_b : goal.overflow_cast_b
+overflow_cast_b c = omega (arith, c.shared_slice_known-2-1.given c.args.p.byte)
 
 pub returns : goal.returns
 unfolding get_bit

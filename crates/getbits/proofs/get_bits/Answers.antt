@@ -8,8 +8,8 @@ pub returns-then-n-lt0 : goal.returns-then-n-lt0
 returns-then-n-lt0 c =
     c.refuse.ensures ∙ width_negative c.args.s.now c.args.p c.args.n (rw (to_z-of_z c.ranges.n) at c.if-n-lt0.true)
 
-pub overflow_cast-n : goal.overflow_cast-n
-overflow_cast-n c =
+pub overflow_cast_n : goal.overflow_cast_n
+overflow_cast_n c =
     let h = rw (to_z-of_z c.ranges.n) at c.if-n-lt0.false in
     rw (to_z-of_z c.ranges.n) ((not_negative c.args.n h).0, nat_abs_fits c.args.n c.ranges.n)
 

@@ -33,12 +33,12 @@ returns-then-r-eq0 c =
     (ap (λ (z : ℤ). record { value = z; next = g.result.next }) (sign_zero n ∙ ap (signed_of n) (sym c.if-r-eq0.true)))
     (ap (signed n) e)
 
-pub overflow_cast-n : goal.overflow_cast-n
-overflow_cast-n c =
+pub overflow_cast_n : goal.overflow_cast_n
+overflow_cast_n c =
     rw (to_z-of_z c.ranges.n) ((known c).0, nat_abs_fits c.args.n c.ranges.n)
 
-pub sign-requires : goal.sign-requires
-sign-requires c =
+pub sign_requires : goal.sign_requires
+sign_requires c =
     rw (to_z-of_z c.ranges.n) ((known c).1, (known c).2, (known c).3)
 
 pub returns : goal.returns

@@ -3,8 +3,8 @@ use borrow.Author.Rules.{rules}
 use Rattle.getbits.proofs.Callers.{byte_pos_le}
 use Rattle.getbits.proofs.remaining_bytes.Goals as goal
 
-pub overflow_sub-result : goal.overflow_sub-result
-overflow_sub-result c =
+pub overflow_sub_result : goal.overflow_sub_result
+overflow_sub_result c =
     let a = c.args in
     omega (arith, c.byte_pos.ensures, byte_pos_le a.s.now a.p)
 

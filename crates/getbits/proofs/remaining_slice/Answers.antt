@@ -6,13 +6,13 @@ use lib.ListN.{drop, length, length-drop}
 use Rattle.getbits.proofs.Callers.{byte_pos_le}
 use Rattle.getbits.proofs.remaining_slice.Goals as goal
 
-pub slice_bounds-result-count : goal.slice_bounds-result-count
-slice_bounds-result-count c =
+pub slice_bounds_result_count : goal.slice_bounds_result_count
+slice_bounds_result_count c =
     let a = c.args in
     omega (arith, c.byte_pos-at.ensures, byte_pos_le a.s.now a.p)
 
-pub slice_bounds-result-start : goal.slice_bounds-result-start
-slice_bounds-result-start c =
+pub slice_bounds_result_start : goal.slice_bounds_result_start
+slice_bounds_result_start c =
     let a = c.args in
     omega (arith, c.byte_pos-at.ensures, byte_pos_le a.s.now a.p)
 

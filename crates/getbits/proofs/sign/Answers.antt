@@ -18,8 +18,8 @@ returns-then-v-half c =
     let h : a.v < 2 ^ 31 = omega arith in
     to_z_pos w32 a.v h ∙ sign_below a.n a.v (omega (arith, twice))
 
-pub overflow_sub-half-2 : goal.overflow_sub-half-2
-overflow_sub-half-2 c =
+pub overflow_sub_half_2 : goal.overflow_sub_half_2
+overflow_sub_half_2 c =
     let twice : 2 ^ c.args.n ≡ 2 * c.power-half.result = let n = c.args.n in
     let e : n ≡ suc (n - 1) = omega arith in
     omega (arith, power_below (omega arith) c.power-half.ensures.0, pow-suc 2 (n - 1), ap (λ (x : ℕ). 2 ^ x) e) in

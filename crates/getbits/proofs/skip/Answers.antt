@@ -24,8 +24,8 @@ at c = let a = c.args in pos_in a.s.now a.p (within c).0 (within c).1
 few : (c : goal.Then-q-n) → let a = c.args in bit_count a.s.now ≤ position a.s.now a.p + a.n
 few c = let a = c.args in ltb-false (position a.s.now a.p + a.n) (bit_count a.s.now) (sym c.more_than.ensures ∙ c.if-more_than.false)
 
-pub overflow_add-result : goal.overflow_add-result
-overflow_add-result c =
+pub overflow_add_result : goal.overflow_add_result
+overflow_add_result c =
     omega (arith, more c, at c, c.well_formed)
 
 pub returns-then-more_than : goal.returns-then-more_than

@@ -5,4 +5,4 @@ use Rattle.grain.proofs.grain_text.Goals as goal
 
 pub returns : goal.returns
 unfolding grain_input_text
-returns c = rw (← c.request.ensures) (stands (search rules) c.put_read.ensures)
+returns c = record { prefix_len = (stands (search rules) c.put_read.ensures).0; out_after = rw (← c.request.ensures) (stands (search rules) c.put_read.ensures).1 }

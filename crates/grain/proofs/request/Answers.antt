@@ -16,22 +16,22 @@ use Rattle.film_grain.specs.declared.FilmGrainData.{FilmGrainData}
 use Rattle.grain.specs.Request.{grain_request}
 use Rattle.grain.proofs.request.Goals as goal
 
-pub bounds-s-0 : goal.bounds-s-0
-bounds-s-0 c =
+pub bounds_s_0 : goal.bounds_s_0
+bounds_s_0 c =
     let long : 1 ≤ length c.args.s.now = let s = c.args.s.now in
     let h = (both _ (leb (get_or s 0 0) 3) (sym c.is_request.ensures ∙ c.if-is_request.true)).0 in
     leb-true 1 (length s) (both _ (leb (length s) 65536) h).0 in
     omega (arith, long)
 
-pub slice_bounds-parse_film_grain_data-count : goal.slice_bounds-parse_film_grain_data-count
-slice_bounds-parse_film_grain_data-count c =
+pub slice_bounds_parse_film_grain_data_count : goal.slice_bounds_parse_film_grain_data_count
+slice_bounds_parse_film_grain_data_count c =
     let long : 1 ≤ length c.args.s.now = let s = c.args.s.now in
     let h = (both _ (leb (get_or s 0 0) 3) (sym c.is_request.ensures ∙ c.if-is_request.true)).0 in
     leb-true 1 (length s) (both _ (leb (length s) 65536) h).0 in
     long
 
-pub slice_bounds-parse_film_grain_data-start : goal.slice_bounds-parse_film_grain_data-start
-slice_bounds-parse_film_grain_data-start c =
+pub slice_bounds_parse_film_grain_data_start : goal.slice_bounds_parse_film_grain_data_start
+slice_bounds_parse_film_grain_data_start c =
     let long : 1 ≤ length c.args.s.now = let s = c.args.s.now in
     let h = (both _ (leb (get_or s 0 0) 3) (sym c.is_request.ensures ∙ c.if-is_request.true)).0 in
     leb-true 1 (length s) (both _ (leb (length s) 65536) h).0 in

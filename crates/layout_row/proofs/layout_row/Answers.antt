@@ -18,8 +18,8 @@ none = refl
 empty : Holds (replicate 177 0) 0 []
 empty = record { made = none; long = refl; small = λ k. omega arith }
 
-pub put_layout-bits-requires : goal.put_layout-bits-requires
-put_layout-bits-requires c = sym c.has_row.ensures ∙ c.if-has_row.true
+pub put_layout_bits_requires : goal.put_layout_bits_requires
+put_layout_bits_requires c = sym c.has_row.ensures ∙ c.if-has_row.true
 
 pub returns-then-has_row : goal.returns-then-has_row
 unfolding row_of

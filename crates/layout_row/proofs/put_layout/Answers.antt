@@ -14,8 +14,8 @@ returns-then-t c =
     let a = c.args in
     rw (taken a.t.uniform _ _ c.if-t.true) (append.both c.put_bit-at.ensures c.put_logs.ensures)
 
-pub put_sides-requires : goal.put_sides-requires
-put_sides-requires c =
+pub put_sides_requires : goal.put_sides_requires
+put_sides_requires c =
     let a = c.args in
     let p = both (in_domain a.a && leb a.t.cols 64) (leb a.t.rows 64) c.requires in
     let q = both (in_domain a.a) (leb a.t.cols 64) p.0 in

@@ -3,8 +3,8 @@ use Rattle.layout_bits.specs.Bits.{logs_code}
 use Rattle.layout_row.proofs.Append.{both}
 use Rattle.layout_row.proofs.put_logs.Goals as goal
 
-pub put_log2-requires : goal.put_log2-requires
-put_log2-requires c = omega (arith, c.put_log2-end.ensures.1, c.requires)
+pub put_log2_requires : goal.put_log2_requires
+put_log2_requires c = omega (arith, c.put_log2-end.ensures.1, c.requires)
 
 pub returns : goal.returns
 unfolding logs_code

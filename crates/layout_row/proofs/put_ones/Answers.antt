@@ -14,18 +14,18 @@ all_ones {n} {i} h v =
     let e : i ≡ n = omega (arith, v.0) in
     rw e at v.1
 
-pub loop-i-init : goal.loop-i-init
-loop-i-init c = (omega arith, nothing c.args.row.now c.args.at)
+pub loop_i_init : goal.loop_i_init
+loop_i_init c = (omega arith, nothing c.args.row.now c.args.at)
 
-pub put_bit-end-requires : goal.put_bit-end-requires
-put_bit-end-requires c = (omega (arith, c.loop-i.invariant.1.ends, ones_length c.loop-i.i, c.loop-i.invariant.0, c.ranges.n), omega arith)
+pub put_bit_end_requires : goal.put_bit_end_requires
+put_bit_end_requires c = (omega (arith, c.loop-i.invariant.1.ends, ones_length c.loop-i.i, c.loop-i.invariant.0, c.ranges.n), omega arith)
 
-pub loop-i-preserved : goal.loop-i-preserved
-loop-i-preserved c =
+pub loop_i_preserved : goal.loop_i_preserved
+loop_i_preserved c =
     (omega (arith, c.loop-i-test.true), rw (ones_more c.loop-i.i) (both c.loop-i.invariant.1 c.put_bit-end.ensures))
 
-pub put_bit-requires : goal.put_bit-requires
-put_bit-requires c = (omega (arith, c.loop-i.invariant.1.ends, ones_length c.loop-i.i, c.loop-i.invariant.0, c.ranges.n), omega arith)
+pub put_bit_requires : goal.put_bit_requires
+put_bit_requires c = (omega (arith, c.loop-i.invariant.1.ends, ones_length c.loop-i.i, c.loop-i.invariant.0, c.ranges.n), omega arith)
 
 pub returns-then-n-most : goal.returns-then-n-most
 unfolding ones_code

@@ -9,13 +9,13 @@ use Rattle.layout_bits.specs.Bits.{sizes_code, sides_code, col_sizes, row_sizes}
 use Rattle.layout_row.proofs.Append.{are, both}
 use Rattle.layout_row.proofs.put_sides.Goals as goal
 
-pub put_sizes-end-requires : goal.put_sizes-end-requires
-put_sizes-end-requires c =
+pub put_sizes_end_requires : goal.put_sizes_end_requires
+put_sizes_end_requires c =
     let total : c.col_bounds.result.total.0 ≡ sbw c.args.a = c.col_bounds.ensures.0 ∙ taken _ _ _ c.requires.1 in
     (omega (arith, c.requires.0, c.requires.2), omega (arith, total, (across _ (domain _ c.requires.1)).most_all))
 
-pub put_sizes-requires : goal.put_sizes-requires
-put_sizes-requires c =
+pub put_sizes_requires : goal.put_sizes_requires
+put_sizes_requires c =
     let total : c.row_bounds.result.total.0 ≡ sbh c.args.a = c.row_bounds.ensures.0 ∙ taken _ _ _ c.requires.1 in
     (omega (arith, c.requires.0, c.requires.2, c.requires.3, c.put_sizes-end.ensures.1), omega (arith, total, (down _ (domain _ c.requires.1)).most_all))
 

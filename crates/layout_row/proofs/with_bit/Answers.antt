@@ -12,11 +12,11 @@ times_low (suc (suc b)) x h = absurd (omega arith)
 low : (c : goal.After-power) → c.args.bit * c.power.result ≤ 2147483648
 low c = omega (arith, times_low c.args.bit c.power.result c.requires.1, c.power.ensures.2)
 
-pub overflow_mul-result : goal.overflow_mul-result
-overflow_mul-result c = omega (arith, low c)
+pub overflow_mul_result : goal.overflow_mul_result
+overflow_mul_result c = omega (arith, low c)
 
-pub overflow_add-result : goal.overflow_add-result
-overflow_add-result c = omega (arith, low c, c.ranges.byte)
+pub overflow_add_result : goal.overflow_add_result
+overflow_add_result c = omega (arith, low c, c.ranges.byte)
 
 pub returns : goal.returns
 returns c =

@@ -12,11 +12,11 @@ use Rattle.panel.proofs.panel_text.Goals as goal
 
 pub returns-then-input-eq0 : goal.returns-then-input-eq0
 unfolding panel_text either_text
-returns-then-input-eq0 c = rw c.if-input-eq0.true (stands (search rules) c.Put-refused.ensures)
+returns-then-input-eq0 c = record { prefix_len = (stands (search rules) c.put_refused.ensures).0; out_after = rw c.if-input-eq0.true (stands (search rules) c.put_refused.ensures).1 }
 
 pub returns : goal.returns
 unfolding panel_text either_text
 returns c =
     let s = c.args.input.now in
     let rest : take (length s - 1) (drop 1 s) ≡ drop 1 s = take_all (length s - 1) (drop 1 s) (simp length-drop (omega arith)) in
-    rw (ne_eqb _ _ c.if-input-eq0.false, ← rest) (stands (search rules) c.put_rest.ensures)
+    record { prefix_len = (stands (search rules) c.put_rest.ensures).0; out_after = rw (ne_eqb _ _ c.if-input-eq0.false, ← rest) (stands (search rules) c.put_rest.ensures).1 }

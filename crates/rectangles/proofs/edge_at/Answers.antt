@@ -5,8 +5,8 @@ use lib.ListN.{get_or}
 use Rattle.rectangles.proofs.Rising.{samples_lt}
 use Rattle.rectangles.proofs.edge_at.Goals as goal
 
-pub overflow_mul-samples : goal.overflow_mul-samples
-overflow_mul-samples c =
+pub overflow_mul_samples : goal.overflow_mul_samples
+overflow_mul_samples c =
     record { fits = samples_lt c.u16_to_u32.result c.args.side (omega arith) c.requires.1 }
 
 pub returns-then-samples-most : goal.returns-then-samples-most

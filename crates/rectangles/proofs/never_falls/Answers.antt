@@ -7,12 +7,12 @@ use Rattle.rectangles.proofs.Rising.{rising_more}
 use Rattle.rectangles.specs.Rectangles.{rising}
 use Rattle.rectangles.proofs.never_falls.Goals as goal
 
-pub loop-i-init : goal.loop-i-init
+pub loop_i_init : goal.loop_i_init
 unfolding rising
-loop-i-init c = (search rules, ap (λ (x : ℕ). leb x 1024) c.start_at-good.ensures)
+loop_i_init c = (search rules, ap (λ (x : ℕ). leb x 1024) c.start_at-good.ensures)
 
-pub loop-i-preserved : goal.loop-i-preserved
-loop-i-preserved c =
+pub loop_i_preserved : goal.loop_i_preserved
+loop_i_preserved c =
     (search rules, rising_more c.args.starts.now c.loop-i.i c.loop-i.invariant.1 c.start_at-start.ensures c.start_at-next.ensures)
 
 pub returns : goal.returns

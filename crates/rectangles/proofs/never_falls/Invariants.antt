@@ -3,8 +3,8 @@ use Prim.Native.Nat.{◌-◌, ◌≤◌}
 use Rattle.rectangles.specs.Rectangles.{rising}
 use Rattle.rectangles.proofs.never_falls.Given as goal
 
-abbrev pub invariant-loop-i : goal.invariant-loop-i
-invariant-loop-i l = (l.i ≤ l.n) × (l.good ≡ rising l.starts l.i)
+abbrev pub invariant_loop_i : goal.invariant_loop_i
+invariant_loop_i l = (l.i ≤ l.n) × (l.good ≡ rising l.starts l.i)
 
-abbrev pub decreases-loop-i : goal.decreases-loop-i
-decreases-loop-i l = l.n - l.i
+abbrev pub decreases_loop_i : goal.decreases_loop_i
+decreases_loop_i l = l.n - l.i

@@ -4,14 +4,14 @@ use native.Mathlib.Omega.{arith}
 use lib.ListN.{length-set}
 use Rattle.rectangles.proofs.put_rectangle.Goals as goal
 
-pub bounds-out-at-2 : goal.bounds-out-at-2
-bounds-out-at-2 c = simp length-set (omega arith)
+pub bounds_out_at_2 : goal.bounds_out_at_2
+bounds_out_at_2 c = simp length-set (omega arith)
 
-pub bounds-out-at-3 : goal.bounds-out-at-3
-bounds-out-at-3 c = simp length-set (omega arith)
+pub bounds_out_at_3 : goal.bounds_out_at_3
+bounds_out_at_3 c = simp length-set (omega arith)
 
-pub bounds-out-at-4 : goal.bounds-out-at-4
-bounds-out-at-4 c = simp length-set (omega arith)
+pub bounds_out_at_4 : goal.bounds_out_at_4
+bounds_out_at_4 c = simp length-set (omega arith)
 
 pub returns : goal.returns
 returns c =

@@ -7,17 +7,17 @@ use Rattle.rectangles.proofs.Each.{store_more}
 use Rattle.rectangles.specs.Rectangles.{edge, reach, each}
 use Rattle.rectangles.proofs.put_row.Goals as goal
 
-pub loop-col-init : goal.loop-col-init
+pub loop_col_init : goal.loop_col_init
 unfolding each
-loop-col-init c = (omega arith, refl)
+loop_col_init c = (omega arith, refl)
 
-pub span_of-across-requires : goal.span_of-across-requires
-span_of-across-requires c =
+pub span_of_across_requires : goal.span_of_across_requires
+span_of_across_requires c =
     let w = steps c.args.starts.now c.args.cols c.loop-col.col c.requires.1 c.loop-col-test.true in
     (w.rises, w.next, c.requires.3, omega (arith, c.loop-col-test.true, c.requires.2))
 
-pub loop-col-preserved : goal.loop-col-preserved
-loop-col-preserved c =
+pub loop_col_preserved : goal.loop_col_preserved
+loop_col_preserved c =
     let a = c.args in
     -- the tile of each column
     let tile : ℕ → List ℕ = λ i. edge a.starts.now a.side a.w i ∷ a.down.begin ∷ reach a.starts.now a.side a.w i ∷ a.down.reach ∷ [] in

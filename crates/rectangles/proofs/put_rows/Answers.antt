@@ -24,28 +24,28 @@ room : (t : TileInfo) (row long : ℕ) → rectangle_numbers t ≤ long → row 
 room t row long fits h =
     omega (arith, fits, mul_assoc 4 t.cols t.rows, mul-add (4 * t.cols) row 1, mul-le-mul_left {m = row + 1} {n = t.rows} (4 * t.cols) (omega arith))
 
-pub side_of-side-requires : goal.side_of-side-requires
-side_of-side-requires c = let a = c.args in (described a.t a.sb128 a.w a.h c.requires.0).small_code
+pub side_of_side_requires : goal.side_of_side_requires
+side_of_side_requires c = let a = c.args in (described a.t a.sb128 a.w a.h c.requires.0).small_code
 
-pub loop-row-init : goal.loop-row-init
+pub loop_row_init : goal.loop_row_init
 unfolding each
-loop-row-init c = (omega arith, refl)
+loop_row_init c = (omega arith, refl)
 
-pub span_of-down-requires : goal.span_of-down-requires
-span_of-down-requires c =
+pub span_of_down_requires : goal.span_of_down_requires
+span_of_down_requires c =
     let a = c.args in
     let k = described a.t a.sb128 a.w a.h c.requires.0 in
     let w = steps a.t.row_start_sb a.t.rows c.loop-row.row k.down c.loop-row-test.true in
     (w.rises, w.next, c.side_of-side.ensures.1, omega (arith, c.loop-row-test.true, k.most_rows))
 
-pub put_row-requires : goal.put_row-requires
-put_row-requires c =
+pub put_row_requires : goal.put_row_requires
+put_row_requires c =
     let a = c.args in
     let k = described a.t a.sb128 a.w a.h c.requires.0 in
     (room a.t c.loop-row.row (length c.loop-row.out) (omega arith) c.loop-row-test.true, k.across, k.most_cols, c.side_of-side.ensures.1)
 
-pub loop-row-preserved : goal.loop-row-preserved
-loop-row-preserved c =
+pub loop_row_preserved : goal.loop_row_preserved
+loop_row_preserved c =
     let a = c.args in
     let side = c.side_of-side.result in
     let down = c.span_of-down.ensures in (

@@ -10,9 +10,9 @@ abbrev pub across : List ℕ → List ℕ → ℕ → ℕ → ℕ → ℕ → �
 across col-start-sb row-start-sb side w h cols row =
     each cols λ col. edge col-start-sb side w col ∷ edge row-start-sb side h row ∷ reach col-start-sb side w col ∷ reach row-start-sb side h row ∷ []
 
-abbrev pub invariant-loop-row : goal.invariant-loop-row
-invariant-loop-row l =
+abbrev pub invariant_loop_row : goal.invariant_loop_row
+invariant_loop_row l =
     (l.row ≤ l.rows) × (l.out ≡ sets l.initial.out 0 (each l.row (across l.col_start_sb l.row_start_sb l.side l.w l.h l.cols)))
 
-abbrev pub decreases-loop-row : goal.decreases-loop-row
-decreases-loop-row l = l.rows - l.row
+abbrev pub decreases_loop_row : goal.decreases_loop_row
+decreases_loop_row l = l.rows - l.row

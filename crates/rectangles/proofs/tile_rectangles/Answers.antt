@@ -1,7 +1,7 @@
-use mathlib.Core.Bool.{true, false}
+use mathlib.Core.Bool.{true}
 use mathlib.Core.Path.{◌≡◌, sym, ap, ◌∙◌}
 use mathlib.Core.List.{List}
-use Prim.Native.Nat.{ℕ, ◌*◌, ◌≤◌}
+use Prim.Native.Nat.{ℕ}
 use Rattle.answers.specs.declared.Answer.TheVariants.{Accepted}
 use native.Mathlib.Omega.{arith}
 use borrow.Author.Tests.{le-leb, lt-leb}
@@ -24,11 +24,11 @@ returns-then-not-has_rectangles c =
     let w = promised a.t a.sb128 (unsigned a.w) (unsigned a.h) a.out.now (sym (left _ _ _ (sym asked ∙ c.if-not-has_rectangles.true))) in
     record { out_after = w.0; tiles_written = w.1 }
 
-pub overflow_mul-t : goal.overflow_mul-t
-overflow_mul-t c = omega (arith, tiles_le c.args.t c.args.sb128 _ _ (sym c.has_rectangles.ensures ∙ c.if-not-has_rectangles.false))
+pub overflow_mul_t : goal.overflow_mul_t
+overflow_mul_t c = omega (arith, tiles_le c.args.t c.args.sb128 _ _ (sym c.has_rectangles.ensures ∙ c.if-not-has_rectangles.false))
 
-pub overflow_mul-t-2 : goal.overflow_mul-t-2
-overflow_mul-t-2 c = omega (arith, tiles_le c.args.t c.args.sb128 _ _ (sym c.has_rectangles.ensures ∙ c.if-not-has_rectangles.false))
+pub overflow_mul_t_2 : goal.overflow_mul_t_2
+overflow_mul_t_2 c = omega (arith, tiles_le c.args.t c.args.sb128 _ _ (sym c.has_rectangles.ensures ∙ c.if-not-has_rectangles.false))
 
 pub returns-then-out-t : goal.returns-then-out-t
 unfolding tile_rectangles
@@ -41,8 +41,8 @@ returns-then-out-t c =
     (sym (taken _ _ _ good ∙ left _ _ _ (lt-leb (rectangle_numbers a.t) (length a.out.now) c.if-out-t.true))) in
     record { out_after = w.0; tiles_written = w.1 }
 
-pub put_rows-requires : goal.put_rows-requires
-put_rows-requires c = (sym c.has_rectangles.ensures ∙ c.if-not-has_rectangles.false, c.if-out-t.false)
+pub put_rows_requires : goal.put_rows_requires
+put_rows_requires c = (sym c.has_rectangles.ensures ∙ c.if-not-has_rectangles.false, c.if-out-t.false)
 
 pub returns : goal.returns
 unfolding tile_rectangles

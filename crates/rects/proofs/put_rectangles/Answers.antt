@@ -35,10 +35,10 @@ returns-then-is_refusal c =
     let a = c.args in
     let none = not-true _ (sym (asked) ∙ c.if-is_refusal.true) in
     let four = c.number.ensures ∙ ap (λ (z : Answer × List ℕ). number_of z.0) (called ∙ refused a.t a.sb128 (unsigned a.w) (unsigned a.h) zeros none) in
-    rw (none, ← four) (within (omega arith) c.Put-refused.ensures)
+    rw (none, ← four) (within (omega arith) c.put_refused.ensures)
 
-pub overflow_mul-tiles : goal.overflow_mul-tiles
-overflow_mul-tiles c =
+pub overflow_mul_tiles : goal.overflow_mul_tiles
+overflow_mul_tiles c =
     let called : let a = c.args in (c.tile_rectangles-answer.result, c.tile_rectangles-answer.new.1.1.1.1.0) ≡ tile_rectangles a.t a.sb128 (unsigned a.w) (unsigned a.h) zeros = let f = c.ranges in rw (to_z-of_z f.w, to_z-of_z f.h) at c.tile_rectangles-answer.ensures.out_after in
     let asked : let a = c.args in c.is_refusal.result ≡ not (has_rectangles a.t a.sb128 (unsigned a.w) (unsigned a.h)) = let a = c.args in
     c.is_refusal.ensures ∙ ap (λ (z : Answer × List ℕ). is_refusal z.0) (called) ∙ refuses a.t a.sb128 (unsigned a.w) (unsigned a.h) zeros roomy in
@@ -46,8 +46,8 @@ overflow_mul-tiles c =
     let a = c.args in
     omega (arith, tiles_le a.t a.sb128 (unsigned a.w) (unsigned a.h) (has))
 
-pub put_tiles-requires : goal.put_tiles-requires
-put_tiles-requires c =
+pub put_tiles_requires : goal.put_tiles_requires
+put_tiles_requires c =
     let called : let a = c.args in (c.tile_rectangles-answer.result, c.tile_rectangles-answer.new.1.1.1.1.0) ≡ tile_rectangles a.t a.sb128 (unsigned a.w) (unsigned a.h) zeros = let f = c.ranges in rw (to_z-of_z f.w, to_z-of_z f.h) at c.tile_rectangles-answer.ensures.out_after in
     let asked : let a = c.args in c.is_refusal.result ≡ not (has_rectangles a.t a.sb128 (unsigned a.w) (unsigned a.h)) = let a = c.args in
     c.is_refusal.ensures ∙ ap (λ (z : Answer × List ℕ). is_refusal z.0) (called) ∙ refuses a.t a.sb128 (unsigned a.w) (unsigned a.h) zeros roomy in

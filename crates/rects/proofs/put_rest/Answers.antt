@@ -17,4 +17,4 @@ returns-then-first-eq1 c =
 pub returns : goal.returns
 unfolding chosen_text
 returns c =
-    rw (ne_eqb _ _ c.if-first-eq0.false, ne_eqb _ _ c.if-first-eq1.false) (within (omega arith) c.Put-refused.ensures)
+    rw (ne_eqb _ _ c.if-first-eq0.false, ne_eqb _ _ c.if-first-eq1.false) (within (omega arith) c.put_refused.ensures)

@@ -13,22 +13,22 @@ use Rattle.rects.proofs.put_tiles.Goals as goal
 room : (l : goal.At-loop-k invariant-loop decreases-loop) → l.loop-k.k < l.args.n → 4 * l.loop-k.k + 4 ≤ length l.args.xs.now
 room l h = omega (arith, l.requires)
 
-pub loop-k-init : goal.loop-k-init
+pub loop_k_init : goal.loop_k_init
 unfolding each
-loop-k-init c = (search rules, none _ _)
+loop_k_init c = (search rules, none _ _)
 
-pub overflow_mul-k : goal.overflow_mul-k
-overflow_mul-k c = omega (arith, room c c.loop-k-test.true, c.well_formed)
+pub overflow_mul_k : goal.overflow_mul_k
+overflow_mul_k c = omega (arith, room c c.loop-k-test.true, c.well_formed)
 
-pub put_tile-next-requires : goal.put_tile-next-requires
-put_tile-next-requires c = room c c.loop-k-test.true
+pub put_tile_next_requires : goal.put_tile_next_requires
+put_tile_next_requires c = room c c.loop-k-test.true
 
-pub loop-k-preserved : goal.loop-k-preserved
-loop-k-preserved c =
+pub loop_k_preserved : goal.loop_k_preserved
+loop_k_preserved c =
     (search rules, rw (← each_more (λ i. line (row (take 4 (drop (4 * i) c.args.xs.now)))) c.loop-k.k) (within (omega arith) (also c.loop-k.invariant.1 c.put_tile-next.ensures)))
 
-pub shape_of-out : goal.shape_of-out
-shape_of-out c = kept c.loop-k.invariant.1
+pub shape_of_out : goal.shape_of_out
+shape_of_out c = kept c.loop-k.invariant.1
 
 pub returns : goal.returns
 returns c =

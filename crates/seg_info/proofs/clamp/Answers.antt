@@ -12,8 +12,8 @@ returns-then-v-gt351 c =
     let f = c.ranges.v in
     sym (left _ _ _ (rw (to_z-of_z f) at c.if-v-ltminus351.false) ∙ taken _ _ _ (rw (to_z-of_z f) at c.if-v-gt351.true))
 
-pub overflow_cast-result : goal.overflow_cast-result
-overflow_cast-result c =
+pub overflow_cast_result : goal.overflow_cast_result
+overflow_cast_result c =
     let f = c.ranges.v in
     rw (to_z-of_z f) (within _ (rw (to_z-of_z f) at c.if-v-ltminus351.false) (rw (to_z-of_z f) at c.if-v-gt351.false))
 

@@ -27,36 +27,36 @@ two_more n f a =
     let e : n + 2 ≡ n + 1 + 1 = omega arith in
     ap (λ (m : ℕ). turns m f a) e ∙ turns_more (n + 1) f a ∙ ap (f (n + 1)) (turns_more n f a)
 
-pub loop-i-init : goal.loop-i-init
+pub loop_i_init : goal.loop_i_init
 unfolding turns
-loop-i-init c = (omega arith, c.requires.1, refl)
+loop_i_init c = (omega arith, c.requires.1, refl)
 
-pub two_segments-a-requires : goal.two_segments-a-requires
-two_segments-a-requires c =
-    let t = two_left (goal.at.two_segments-a-requires c).Then-i-n in
+pub two_segments_a_requires : goal.two_segments_a_requires
+two_segments_a_requires c =
+    let t = two_left (goal.at.two_segments_a_requires c).Then-i-n in
     (omega (arith, t.0, c.requires.0), c.loop-i.invariant.1, omega (arith, t.1))
 
-pub overflow_add-i-then-i-n : goal.overflow_add-i-then-i-n
-overflow_add-i-then-i-n c = omega (arith, (two_left (goal.at.overflow_add-i-then-i-n c).Then-i-n).0, c.requires.0)
+pub overflow_add_i_then_i_n : goal.overflow_add_i_then_i_n
+overflow_add_i_then_i_n c = omega (arith, (two_left (goal.at.overflow_add_i_then_i_n c).Then-i-n).0, c.requires.0)
 
-pub loop-i-smaller-then-i-n : goal.loop-i-smaller-then-i-n
-loop-i-smaller-then-i-n c = omega (arith, (two_left (goal.at.loop-i-smaller-then-i-n c).Then-i-n).0)
+pub loop_i_smaller_then_i_n : goal.loop_i_smaller_then_i_n
+loop_i_smaller_then_i_n c = omega (arith, (two_left (goal.at.loop_i_smaller_then_i_n c).Then-i-n).0)
 
-pub loop-i-preserved-then-i-n : goal.loop-i-preserved-then-i-n
-loop-i-preserved-then-i-n c =
+pub loop_i_preserved_then_i_n : goal.loop_i_preserved_then_i_n
+loop_i_preserved_then_i_n c =
     let f = segment c.args.s.now in
     let i = c.loop-i.i in (
-      (two_left (goal.at.loop-i-preserved-then-i-n c).Then-i-n).0,
+      (two_left (goal.at.loop_i_preserved_then_i_n c).Then-i-n).0,
       omega (arith, c.loop-i.invariant.1),
       c.two_segments-a.ensures ∙ ap (λ (x : SegRead). f (i + 1) (f i x)) c.loop-i.invariant.2 ∙ sym (two_more i f _),
     )
 
-pub read_segment-a-requires : goal.read_segment-a-requires
-read_segment-a-requires c =
+pub read_segment_a_requires : goal.read_segment_a_requires
+read_segment_a_requires c =
     (omega (arith, c.requires.0), c.loop-i.invariant.1)
 
-pub loop-i-preserved : goal.loop-i-preserved
-loop-i-preserved c =
+pub loop_i_preserved : goal.loop_i_preserved
+loop_i_preserved c =
     let f = segment c.args.s.now in
     let i = c.loop-i.i in (
       omega arith,
@@ -70,5 +70,5 @@ returns c =
     let e : c.loop-i.i ≡ a.n = omega arith in
     c.loop-i.invariant.2 ∙ ap (λ (m : ℕ). turns m (segment a.s.now) (lent_read a.delta_q.now a.r)) e
 
-pub loop-i-smaller : goal.loop-i-smaller
-loop-i-smaller c = omega arith
+pub loop_i_smaller : goal.loop_i_smaller
+loop_i_smaller c = omega arith

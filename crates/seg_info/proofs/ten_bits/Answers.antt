@@ -28,8 +28,8 @@ signed v =
 fits : (s : goal.Start) → SFits w32 (pos ((s.args.v + 512) % 1024) -ℤ pos 512)
 fits s = record { sfits = omega (arith, difference ((s.args.v + 512) % 1024) 512 512 (omega arith) (omega arith) (omega arith)) }
 
-pub overflow_sub-result : goal.overflow_sub-result
-overflow_sub-result c = rw (to_z_pos w32 ((c.args.v + 512) % 1024) (omega arith)) (fits c)
+pub overflow_sub_result : goal.overflow_sub_result
+overflow_sub_result c = rw (to_z_pos w32 ((c.args.v + 512) % 1024) (omega arith)) (fits c)
 
 pub returns : goal.returns
 returns c = rw (to_z_pos w32 ((c.args.v + 512) % 1024) (omega arith), to_z-of_z w32 _ (fits c)) (signed c.args.v)

@@ -28,9 +28,9 @@ returns-then-is_refusal c =
     let w = promised a.s.now a.p a.strict (head_ends a.s.now a.p a.strict c.read_head-head.ensures.is (sym c.is_refusal.ensures ∙ c.if-is_refusal.true)) in
     record { value = w.0; header_layout = w.1 }
 
-pub read_rest-rest-requires : goal.read_rest-rest-requires
+pub read_rest_rest_requires : goal.read_rest_rest_requires
 unfolding put_layout
-read_rest-rest-requires c = record { rows_value = refl; rows_value_2 = refl }
+read_rest_rest_requires c = record { rows_value = refl; rows_value_2 = refl }
 
 pub returns-then-is_refusal-2 : goal.returns-then-is_refusal-2
 returns-then-is_refusal-2 c =

@@ -28,8 +28,8 @@ returns-then-is_refusal c =
     let refusal = sym c.is_refusal.ensures ∙ c.if-is_refusal.true in
     (λ hdr. through _ _ t.is ∙ taken _ _ _ refusal, t.put ∙ taken _ _ _ refusal)
 
-pub clear_layout-requires : goal.clear_layout-requires
-clear_layout-requires c = let t = c.read_tiling-tiling.auto in rw (t.info, t.cols, t.rows) c.requires.rows_value
+pub clear_layout_requires : goal.clear_layout_requires
+clear_layout_requires c = let t = c.read_tiling-tiling.auto in rw (t.info, t.cols, t.rows) c.requires.rows_value
 
 pub returns-then-is_refusal-2 : goal.returns-then-is_refusal-2
 returns-then-is_refusal-2 c =

@@ -34,7 +34,7 @@ module _ (s : List ℕ) (p : Place) (strict : Bool) (out : List ℤ) (b : Buffer
       ((r, out', after) ≡ parse_seq_hdr_into s p strict out b)
       × ((has_room b ≡ true → layout_in after ≡ (parse_seq_hdr s p strict).hdr.tiling.t) × (has_room b ≡ true → HeaderTiling s p (number_of r.answer) (layout_in after)))
 
-  whole : (z : SeqRead) {out' : List ℤ} {after : Buffers} → length after.col_starts_lem ≡ length b.col_starts_lem → length after.row_starts_lem ≡ length b.row_starts_lem
+  whole : (z : SeqRead) {out' : List ℤ} {after : Buffers} → length after.col_starts ≡ length b.col_starts → length after.row_starts ≡ length b.row_starts
       → parse_seq_hdr s p strict ≡ z → out' ≡ over_front 146 (flat_seq_hdr z.hdr) out → after ≡ put_layout z.hdr.tiling.t b
       → Left (record { answer = z.answer; next = z.next }) out' after
   unfolding parse_seq_hdr_into
@@ -51,7 +51,7 @@ module _ (s : List ℕ) (p : Place) (strict : Bool) (out : List ℤ) (b : Buffer
       )
 
   -- a refused one
-  zeros : (answer : Answer) (q : Place) {out' : List ℤ} {after : Buffers} → length after.col_starts_lem ≡ length b.col_starts_lem → length after.row_starts_lem ≡ length b.row_starts_lem
+  zeros : (answer : Answer) (q : Place) {out' : List ℤ} {after : Buffers} → length after.col_starts ≡ length b.col_starts → length after.row_starts ≡ length b.row_starts
       → parse_seq_hdr s p strict ≡ refused_header answer q → out' ≡ over_front 146 (replicate 146 (pos 0)) out → after ≡ put_layout no_tile_info b
       → Left (record { answer = answer; next = q }) out' after
   unfolding refused_header
@@ -64,8 +64,8 @@ returns-then-not-has_room c =
     let lacks = sym c.has_room.ensures ∙ c.if-not-has_room.true in
     record { after_after = sym (left _ _ _ lacks); fact = λ h. contrary h lacks; fact_2 = λ h. contrary h lacks }
 
-pub clear_layout-requires : goal.clear_layout-requires
-clear_layout-requires c = sym c.has_room.ensures ∙ c.if-not-has_room.false
+pub clear_layout_requires : goal.clear_layout_requires
+clear_layout_requires c = sym c.has_room.ensures ∙ c.if-not-has_room.false
 
 pub returns-then-is_refusal : goal.returns-then-is_refusal
 returns-then-is_refusal c =
@@ -81,8 +81,8 @@ returns-then-is_refusal c =
     c.clear_layout.ensures in
     record { after_after = w.0; fact = w.1.0; fact_2 = w.1.1 }
 
-pub read_rest-rest-requires : goal.read_rest-rest-requires
-read_rest-rest-requires c =
+pub read_rest_rest_requires : goal.read_rest_rest_requires
+read_rest_rest_requires c =
     let a = c.args in
     let b : Buffers = buffers a.info.now a.cols.now a.rows.now in
     let has : has_room b ≡ true = sym c.has_room.ensures ∙ c.if-not-has_room.false in

@@ -14,8 +14,8 @@ pub returns : goal.returns
 unfolding count_if
 returns c = sym (through _ _ c.uniform_if-n.ensures)
 
-pub overflow_add-result : goal.overflow_add-result
-overflow_add-result c = omega (arith, below c)
+pub overflow_add_result : goal.overflow_add_result
+overflow_add_result c = omega (arith, below c)
 
-pub overflow_cast-result : goal.overflow_cast-result
-overflow_cast-result c = omega (arith, below c)
+pub overflow_cast_result : goal.overflow_cast_result
+overflow_cast_result c = omega (arith, below c)

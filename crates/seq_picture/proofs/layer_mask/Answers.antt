@@ -6,8 +6,8 @@ use Rattle.getbits.proofs.Chain.{left}
 use Rattle.getbits.proofs.Fields.{shl_one}
 use Rattle.seq_picture.proofs.layer_mask.Goals as goal
 
-pub overflow_sub-result-2 : goal.overflow_sub-result-2
-overflow_sub-result-2 c =
+pub overflow_sub_result_2 : goal.overflow_sub_result_2
+overflow_sub_result_2 c =
     let n = c.args.n - 1 in
     let h : n < 8 = omega arith in
     rw (shl_one n 8 h) (pow_pos n)

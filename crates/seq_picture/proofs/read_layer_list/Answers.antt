@@ -6,15 +6,15 @@ use Rattle.getbits.proofs.Chain.{through, turns_more}
 use Rattle.seq_picture.specs.Picture.{layer, read_layer_list}
 use Rattle.seq_picture.proofs.read_layer_list.Goals as goal
 
-pub loop-n-init : goal.loop-n-init
+pub loop_n_init : goal.loop_n_init
 unfolding turns
-loop-n-init c = (omega arith, omega arith, refl)
+loop_n_init c = (omega arith, omega arith, refl)
 
-pub read_layer-r-requires : goal.read_layer-r-requires
-read_layer-r-requires c = (omega arith, omega arith)
+pub read_layer_r_requires : goal.read_layer_r_requires
+read_layer_r_requires c = (omega arith, omega arith)
 
-pub loop-n-preserved : goal.loop-n-preserved
-loop-n-preserved c =
+pub loop_n_preserved : goal.loop_n_preserved
+loop_n_preserved c =
     let n = c.loop-n.n in
     let e : n + 1 - 1 ≡ n - 1 + 1 = omega arith in
     let k : n - 1 + 1 ≡ n = omega arith in
@@ -26,8 +26,8 @@ returns c =
     let e : c.loop-n.n - 1 ≡ c.args.max - 1 = omega arith in
     rw e at c.loop-n.invariant.2 ∙ sym (through _ _ c.flag_if-sent.ensures)
 
-pub overflow_step-n : goal.overflow_step-n
-overflow_step-n c = omega arith
+pub overflow_step_n : goal.overflow_step_n
+overflow_step_n c = omega arith
 
-pub loop-n-smaller : goal.loop-n-smaller
-loop-n-smaller c = omega arith
+pub loop_n_smaller : goal.loop_n_smaller
+loop_n_smaller c = omega arith

@@ -14,8 +14,8 @@ short : (c : goal.After-struct_known-1) → c.read_bits-r.result.value < 2 ^ 16
 short c =
     omega (arith, bits_below _ _ _ c.read_bits-r.ensures, pow_mono {i = c.args.n} {j = 16} c.requires)
 
-pub overflow_cast-result : goal.overflow_cast-result
-overflow_cast-result c = record { sfits = omega (arith, short c) }
+pub overflow_cast_result : goal.overflow_cast_result
+overflow_cast_result c = record { sfits = omega (arith, short c) }
 
 pub returns : goal.returns
 unfolding read_length
@@ -23,5 +23,5 @@ returns c =
     let h : c.read_bits-r.result.value + 1 < 2 ^ 31 = omega (arith, short c) in
     rw (to_z_pos w32 _ h) (sym (through _ _ c.read_bits-r.ensures))
 
-pub overflow_add-result : goal.overflow_add-result
-overflow_add-result c = omega (arith, short c)
+pub overflow_add_result : goal.overflow_add_result
+overflow_add_result c = omega (arith, short c)

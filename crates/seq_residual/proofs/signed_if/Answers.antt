@@ -9,8 +9,8 @@ fits : (x : ℕ) → x < 32 → (t : Bool) → ltb x 23 ≡ t → SFits w8 (pos 
 fits x h true e = record { sfits = simp e (omega arith) }
 fits x h false e = record { sfits = simp e (omega arith) }
 
-pub overflow_sub-result : goal.overflow_sub-result
-overflow_sub-result c =
+pub overflow_sub_result : goal.overflow_sub_result
+overflow_sub_result c =
     let b = c.small_if-n.ensures.below in
     let h : c.small_if-n.result.value < 2 ^ 7 = omega (arith, b) in
     rw (to_z_pos w8 _ h) (fits _ b _ refl)

@@ -15,22 +15,22 @@ use Rattle.seq_hdr.specs.Header.{parse_seq_hdr}
 use Rattle.seqhdr.specs.Request.{seq_request}
 use Rattle.seqhdr.proofs.request.Goals as goal
 
-pub bounds-s-0 : goal.bounds-s-0
-bounds-s-0 c =
+pub bounds_s_0 : goal.bounds_s_0
+bounds_s_0 c =
     let long : 1 ≤ length c.args.s.now = let s = c.args.s.now in
     let h = (both _ (leb (get_or s 0 0) 1) (sym c.is_request.ensures ∙ c.if-is_request.true)).0 in
     leb-true 1 (length s) (both _ (leb (length s) 65536) h).0 in
     omega (arith, long)
 
-pub slice_bounds-parse_seq_hdr-count : goal.slice_bounds-parse_seq_hdr-count
-slice_bounds-parse_seq_hdr-count c =
+pub slice_bounds_parse_seq_hdr_count : goal.slice_bounds_parse_seq_hdr_count
+slice_bounds_parse_seq_hdr_count c =
     let long : 1 ≤ length c.args.s.now = let s = c.args.s.now in
     let h = (both _ (leb (get_or s 0 0) 1) (sym c.is_request.ensures ∙ c.if-is_request.true)).0 in
     leb-true 1 (length s) (both _ (leb (length s) 65536) h).0 in
     long
 
-pub slice_bounds-parse_seq_hdr-start : goal.slice_bounds-parse_seq_hdr-start
-slice_bounds-parse_seq_hdr-start c =
+pub slice_bounds_parse_seq_hdr_start : goal.slice_bounds_parse_seq_hdr_start
+slice_bounds_parse_seq_hdr_start c =
     let long : 1 ≤ length c.args.s.now = let s = c.args.s.now in
     let h = (both _ (leb (get_or s 0 0) 1) (sym c.is_request.ensures ∙ c.if-is_request.true)).0 in
     leb-true 1 (length s) (both _ (leb (length s) 65536) h).0 in

@@ -10,8 +10,8 @@ read c =
     let a = c.args in
     c.get_uniform-g.ensures ∙ ap (get_uniform a.s.now a.p) c.umin.ensures
 
-pub overflow_add-result : goal.overflow_add-result
-overflow_add-result c = record { fits = rw (read c) (uniform_fits _ _ _ (search rules)) }
+pub overflow_add_result : goal.overflow_add_result
+overflow_add_result c = record { fits = rw (read c) (uniform_fits _ _ _ (search rules)) }
 
 pub returns : goal.returns
 returns c =

@@ -29,17 +29,17 @@ negative c =
 small : (c : goal.Then-n-lt0) → SFits w64 (pos (mag c.args.n))
 small c = record { sfits = c.ranges.n.sfits }
 
-pub overflow_sub-result : goal.overflow_sub-result
-overflow_sub-result c = rw (negative c) (small c)
+pub overflow_sub_result : goal.overflow_sub_result
+overflow_sub_result c = rw (negative c) (small c)
 
-pub overflow_cast-result : goal.overflow_cast-result
-overflow_cast-result c = rw (negative c, to_z-of_z (small c)) (tt, record { fits = lt_of_lt_of_le c.ranges.n.sfits (lit≤ tt) })
+pub overflow_cast_result : goal.overflow_cast_result
+overflow_cast_result c = rw (negative c, to_z-of_z (small c)) (tt, record { fits = lt_of_lt_of_le c.ranges.n.sfits (lit≤ tt) })
 
-pub overflow_add-result : goal.overflow_add-result
-overflow_add-result c = rw (negative c, to_z-of_z (small c)) (omega (arith, c.ranges.n.sfits))
+pub overflow_add_result : goal.overflow_add_result
+overflow_add_result c = rw (negative c, to_z-of_z (small c)) (omega (arith, c.ranges.n.sfits))
 
-pub overflow_cast-result-2 : goal.overflow_cast-result-2
-overflow_cast-result-2 c =
+pub overflow_cast_result_2 : goal.overflow_cast_result_2
+overflow_cast_result_2 c =
     let h = rw (to_z-of_z c.ranges.n) at c.if-n-lt0.false in
     rw (to_z-of_z c.ranges.n) ((not_negative c.args.n h).0, record { fits = lt_of_le_of_lt {m = 2 ^ 63} (nat_abs-le c.args.n c.ranges.n.sfits) (lit< tt) })
 

@@ -5,4 +5,4 @@ use Rattle.tile.proofs.tile_text.Goals as goal
 
 pub returns : goal.returns
 unfolding tile_text
-returns c = rw (← c.tile_request.ensures) (stands (search rules) c.put_tile_read.ensures)
+returns c = record { prefix_len = (stands (search rules) c.put_tile_read.ensures).0; out_after = rw (← c.tile_request.ensures) (stands (search rules) c.put_tile_read.ensures).1 }

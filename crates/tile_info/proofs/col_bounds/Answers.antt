@@ -2,8 +2,8 @@ use mathlib.Core.Path.{sym, ◌∙◌}
 use Rattle.getbits.proofs.Chain.{taken, left}
 use Rattle.tile_info.proofs.col_bounds.Goals as goal
 
-pub frame_limits-k-requires : goal.frame_limits-k-requires
-frame_limits-k-requires c = sym c.in_domain.ensures ∙ c.if-in_domain.true
+pub frame_limits_k_requires : goal.frame_limits_k_requires
+frame_limits_k_requires c = sym c.in_domain.ensures ∙ c.if-in_domain.true
 
 pub returns-then-in_domain : goal.returns-then-in_domain
 returns-then-in_domain c =

@@ -17,11 +17,11 @@ returns-then-not-has_room c =
     let a = c.args in
     let b = buffers a.info.now a.cols.now a.rows.now in
     let lacks = sym c.has_room.ensures ∙ c.if-not-has_room.true in
-    let w = what-is-left a.s.now a.p b (args_of a.sbmul a.sb128 a.seq_sb128 a.w a.h a.level a.tier) (rw c.unread.ensures (sym (left _ _ _ lacks))) refl refl in
+    let w = what-is-left a.s.now a.p b (args_of a.sbmul a.sb128 a.seq_sb128 a.w a.h a.level a.tier) (sym (left _ _ _ lacks)) refl refl in
     record { after_after = w.0; fact = w.1.0; fact_2 = w.1.1.0; fact_3 = w.1.1.1 }
 
-pub read_layout-requires : goal.read_layout-requires
-read_layout-requires c =
+pub read_layout_requires : goal.read_layout_requires
+read_layout_requires c =
     record { a_value = sym c.in_domain.ensures ∙ c.if-in_domain.true; rows_value = sym c.has_room.ensures ∙ c.if-not-has_room.false }
 
 pub returns-then-in_domain : goal.returns-then-in_domain
@@ -48,5 +48,5 @@ returns c =
     let has = sym c.has_room.ensures ∙ c.if-not-has_room.false in
     let out = ap in_domain (sym made) ∙ sym c.in_domain.ensures ∙ c.if-in_domain.false in
     let w = what-is-left a.s.now a.p b asked
-    (rw c.unread-2.ensures (sym (taken _ _ _ has ∙ ap (λ (z : TileRead). read_into z b) (left _ _ _ out)))) refl refl in
+    (rw c.unread.ensures (sym (taken _ _ _ has ∙ ap (λ (z : TileRead). read_into z b) (left _ _ _ out)))) refl refl in
     record { after_after = w.0; fact = w.1.0; fact_2 = w.1.1.0; fact_3 = w.1.1.1 }

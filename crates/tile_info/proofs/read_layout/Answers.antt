@@ -39,8 +39,8 @@ behind : (s : List ℕ) (p : Place) (b : Number) → b ≡ get_bit s p → b.nex
 unfolding get_flag
 behind s p b e = ap (λ (n : Number). n.next) e
 
-pub uniform_layout-next-requires : goal.uniform_layout-next-requires
-uniform_layout-next-requires c =
+pub uniform_layout_next_requires : goal.uniform_layout_next_requires
+uniform_layout_next_requires c =
     record { a_value = c.requires.a_value; known = c.frame_limits-k.ensures; word_value = c.look_ahead-word.ensures; rows_value = c.requires.rows_value }
 
 pub returns-then-word-ge2147483648 : goal.returns-then-word-ge2147483648
@@ -51,8 +51,8 @@ returns-then-word-ge2147483648 c =
     accepted a.s.now _ a.a b c.uniform_layout-next.ensures
     ∙ ap (λ (z : TileRead). read_into z b) (sym (uniform a.s.now a.p (layout_in b) a.a c.requires.a_value flag))
 
-pub nonuniform_layout-requires : goal.nonuniform_layout-requires
-nonuniform_layout-requires c =
+pub nonuniform_layout_requires : goal.nonuniform_layout_requires
+nonuniform_layout_requires c =
     record { a_value = c.requires.a_value; known = c.frame_limits-k.ensures; rows_value = c.requires.rows_value }
 
 pub returns : goal.returns

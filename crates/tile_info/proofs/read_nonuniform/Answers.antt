@@ -8,8 +8,8 @@ use Rattle.tile_layout.proofs.Domain.{domain, across, down, limits}
 use Rattle.tile_layout.specs.Layout.{read_sizes, padded, non_uniform_edges, row_limit}
 use Rattle.tile_info.proofs.read_nonuniform.Goals as goal
 
-pub read_tiles-c-requires : goal.read_tiles-c-requires
-read_tiles-c-requires c =
+pub read_tiles_c_requires : goal.read_tiles_c_requires
+read_tiles_c_requires c =
     let a = c.args in
     let k = c.requires.known in
     let d = domain a.a c.requires.a_value in
@@ -25,9 +25,9 @@ returns-then-c c =
     (cols_short a.s.now a.p (layout_in b) c.requires.known c.read_tiles-c.result z c.if-c.true)
     c.invalid_tile_info.ensures refl
 
-pub read_tiles-r-requires : goal.read_tiles-r-requires
+pub read_tiles_r_requires : goal.read_tiles_r_requires
 unfolding row_limit
-read_tiles-r-requires c =
+read_tiles_r_requires c =
     let a = c.args in
     let b = buffers a.info.now a.cols.now a.rows.now in
     ((room b c.requires.rows_value).rows, omega (arith, c.requires.known.down, (down _ (domain a.a c.requires.a_value)).most_all), omega (arith, c.max_tile_height_sb-max_height.ensures))
@@ -43,8 +43,8 @@ returns-then-r c =
     c.max_tile_height_sb-max_height.ensures y c.if-r.true)
     c.invalid_tile_info-then-r.ensures refl
 
-pub bounds-info-5 : goal.bounds-info-5
-bounds-info-5 c =
+pub bounds_info_5 : goal.bounds_info_5
+bounds_info_5 c =
     let a = c.args in
     omega (arith, (room (buffers a.info.now a.cols.now a.rows.now) c.requires.rows_value).bytes)
 

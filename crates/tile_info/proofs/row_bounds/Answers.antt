@@ -2,11 +2,11 @@ use mathlib.Core.Path.{sym, ◌∙◌}
 use Rattle.getbits.proofs.Chain.{taken, left}
 use Rattle.tile_info.proofs.row_bounds.Goals as goal
 
-pub frame_limits-k-requires : goal.frame_limits-k-requires
-frame_limits-k-requires c = sym c.in_domain.ensures ∙ c.if-in_domain.true
+pub frame_limits_k_requires : goal.frame_limits_k_requires
+frame_limits_k_requires c = sym c.in_domain.ensures ∙ c.if-in_domain.true
 
-pub max_tile_height_sb-limit-requires : goal.max_tile_height_sb-limit-requires
-max_tile_height_sb-limit-requires c =
+pub max_tile_height_sb_limit_requires : goal.max_tile_height_sb_limit_requires
+max_tile_height_sb_limit_requires c =
     record { a_value = sym c.in_domain.ensures ∙ c.if-in_domain.true; known = c.frame_limits-k.ensures }
 
 pub returns-then-in_domain : goal.returns-then-in_domain

@@ -25,14 +25,14 @@ flag_is : (s : List ℕ) (p : Place) → flag s p ≡ (get_flag s p).next
 unfolding get_flag get_bit
 flag_is s p = refl
 
-pub read_log2-c-requires : goal.read_log2-c-requires
-read_log2-c-requires c =
+pub read_log2_c_requires : goal.read_log2_c_requires
+read_log2_c_requires c =
     let d = domain c.args.a c.requires.a_value in
     let k = c.requires.known in
     (omega (arith, k.min_cols, min_cols _ d), omega (arith, k.max_cols, max_cols _ d), omega arith)
 
-pub read_log2-r-requires : goal.read_log2-r-requires
-read_log2-r-requires c =
+pub read_log2_r_requires : goal.read_log2_r_requires
+read_log2_r_requires c =
     let a = c.args in
     let s = a.s.now in
     let k = c.requires.known in
@@ -44,8 +44,8 @@ read_log2-r-requires c =
       omega (arith, c.read_log2-c.ensures.low.1),
     )
 
-pub uniform_starts-n_cols-requires : goal.uniform_starts-n_cols-requires
-uniform_starts-n_cols-requires c =
+pub uniform_starts_n_cols_requires : goal.uniform_starts_n_cols_requires
+uniform_starts_n_cols_requires c =
     let a = c.args in
     let d = domain a.a c.requires.a_value in
     let b = buffers a.info.now a.cols.now a.rows.now in
@@ -55,8 +55,8 @@ uniform_starts-n_cols-requires c =
       in_bounds = ((room b c.requires.rows_value).cols, d.some_width, d.most_width, c.requires.known.across, c.read_log2-c.ensures.low.0);
     }
 
-pub uniform_starts-n_rows-requires : goal.uniform_starts-n_rows-requires
-uniform_starts-n_rows-requires c =
+pub uniform_starts_n_rows_requires : goal.uniform_starts_n_rows_requires
+uniform_starts_n_rows_requires c =
     let a = c.args in
     let d = domain a.a c.requires.a_value in
     let b = buffers a.info.now a.cols.now a.rows.now in

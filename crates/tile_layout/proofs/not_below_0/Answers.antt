@@ -17,8 +17,8 @@ pub returns-then-x-lt0 : goal.returns-then-x-lt0
 returns-then-x-lt0 c =
     negative c.args.x (rw (to_z-of_z c.ranges.x) at c.if-x-lt0.true)
 
-pub overflow_cast-result : goal.overflow_cast-result
-overflow_cast-result c =
+pub overflow_cast_result : goal.overflow_cast_result
+overflow_cast_result c =
     let h = rw (to_z-of_z c.ranges.x) at c.if-x-lt0.false in
     rw (to_z-of_z c.ranges.x) ((not_negative c.args.x h).0, nat_abs_fits c.args.x c.ranges.x)
 

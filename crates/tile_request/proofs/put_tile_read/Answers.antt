@@ -6,7 +6,7 @@ use Rattle.tile_request.proofs.put_tile_read.Goals as goal
 pub returns-then-is_refusal : goal.returns-then-is_refusal
 unfolding tile_read_text
 returns-then-is_refusal c =
-    simp (← c.is_refusal.ensures, c.if-is_refusal.true, ← c.number.ensures) (within (omega arith) c.Put-refused.ensures)
+    simp (← c.is_refusal.ensures, c.if-is_refusal.true, ← c.number.ensures) (within (omega arith) c.put_refused.ensures)
 
 pub returns : goal.returns
 unfolding tile_read_text

@@ -25,38 +25,38 @@ use Rattle.tile_request.proofs.request_over.Goals as goal
 abbrev read : List ℕ → List ℕ → TileInfo → ℤ → ℤ → ℤ → TileRead
 read s bits old m w h = parse_tile_info bits (place_at 0 false) old (args_of m (get_or s 4 0) (get_or s 5 0) w h (get_or s 6 0) (get_or s 7 0))
 
-pub bounds-s-4 : goal.bounds-s-4
-bounds-s-4 c =
+pub bounds_s_4 : goal.bounds_s_4
+bounds_s_4 c =
     let long : 8 ≤ length c.args.s.now = let s = c.args.s.now in
     leb-true 8 (length s) (both (leb 8 (length s)) (leb (length s) 65536) (sym c.is_request.ensures ∙ c.if-is_request.true)).0 in
     omega (arith, long)
 
-pub bounds-s-5 : goal.bounds-s-5
-bounds-s-5 c =
+pub bounds_s_5 : goal.bounds_s_5
+bounds_s_5 c =
     let long : 8 ≤ length c.args.s.now = let s = c.args.s.now in
     leb-true 8 (length s) (both (leb 8 (length s)) (leb (length s) 65536) (sym c.is_request.ensures ∙ c.if-is_request.true)).0 in
     omega (arith, long)
 
-pub slice_bounds-parse_tile_info-count : goal.slice_bounds-parse_tile_info-count
-slice_bounds-parse_tile_info-count c =
+pub slice_bounds_parse_tile_info_count : goal.slice_bounds_parse_tile_info_count
+slice_bounds_parse_tile_info_count c =
     let long : 8 ≤ length c.args.s.now = let s = c.args.s.now in
     leb-true 8 (length s) (both (leb 8 (length s)) (leb (length s) 65536) (sym c.is_request.ensures ∙ c.if-is_request.true)).0 in
     long
 
-pub slice_bounds-parse_tile_info-start : goal.slice_bounds-parse_tile_info-start
-slice_bounds-parse_tile_info-start c =
+pub slice_bounds_parse_tile_info_start : goal.slice_bounds_parse_tile_info_start
+slice_bounds_parse_tile_info_start c =
     let long : 8 ≤ length c.args.s.now = let s = c.args.s.now in
     leb-true 8 (length s) (both (leb 8 (length s)) (leb (length s) 65536) (sym c.is_request.ensures ∙ c.if-is_request.true)).0 in
     long
 
-pub bounds-s-6 : goal.bounds-s-6
-bounds-s-6 c =
+pub bounds_s_6 : goal.bounds_s_6
+bounds_s_6 c =
     let long : 8 ≤ length c.args.s.now = let s = c.args.s.now in
     leb-true 8 (length s) (both (leb 8 (length s)) (leb (length s) 65536) (sym c.is_request.ensures ∙ c.if-is_request.true)).0 in
     omega (arith, long)
 
-pub bounds-s-7 : goal.bounds-s-7
-bounds-s-7 c =
+pub bounds_s_7 : goal.bounds_s_7
+bounds_s_7 c =
     let long : 8 ≤ length c.args.s.now = let s = c.args.s.now in
     leb-true 8 (length s) (both (leb 8 (length s)) (leb (length s) 65536) (sym c.is_request.ensures ∙ c.if-is_request.true)).0 in
     omega (arith, long)

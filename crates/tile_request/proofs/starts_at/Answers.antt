@@ -10,12 +10,12 @@ use Rattle.tile_request.specs.Layout.{starts_at}
 use Rattle.tile_request.proofs.starts_at.Invariants.{start}
 use Rattle.tile_request.proofs.starts_at.Goals as goal
 
-pub loop-k-init : goal.loop-k-init
+pub loop_k_init : goal.loop_k_init
 unfolding tabulate
-loop-k-init c = search rules
+loop_k_init c = search rules
 
-pub loop-k-preserved : goal.loop-k-preserved
-loop-k-preserved c =
+pub loop_k_preserved : goal.loop_k_preserved
+loop_k_preserved c =
     let a = c.args in
     let f = start a.s.now a.i in
     let k = c.loop-k.k in

@@ -12,11 +12,11 @@ one_more out bytes i h g =
     let f : suc i ≡ i + 1 = omega arith in
     ap (λ (k : ℕ). set (paste out 0 bytes i) k (get_or bytes i 0)) e ∙ paste-suc out 0 bytes i 0 (omega arith) g ∙ ap (paste out 0 bytes) f
 
-pub loop-i-init : goal.loop-i-init
-loop-i-init c = (omega arith, paste-zero c.args.out.now 0 c.args.bytes.now)
+pub loop_i_init : goal.loop_i_init
+loop_i_init c = (omega arith, paste-zero c.args.out.now 0 c.args.bytes.now)
 
-pub loop-i-preserved : goal.loop-i-preserved
-loop-i-preserved c =
+pub loop_i_preserved : goal.loop_i_preserved
+loop_i_preserved c =
     let bytes = c.args.bytes.now in (
       omega (arith, c.loop-i-test.true),
       ap (λ (x : List ℕ). set x c.loop-i.i (get_or bytes c.loop-i.i 0)) c.loop-i.invariant.1

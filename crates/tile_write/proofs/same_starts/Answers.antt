@@ -5,15 +5,15 @@ use Rattle.getbits.proofs.Places.{lt_or_le}
 use Rattle.layout_writing.proofs.Same.{starts_differ, starts_same}
 use Rattle.tile_write.proofs.same_starts.Goals as goal
 
-pub loop-i-init : goal.loop-i-init
-loop-i-init c = (omega arith, λ k h. absurd (omega arith))
+pub loop_i_init : goal.loop_i_init
+loop_i_init c = (omega arith, λ k h. absurd (omega arith))
 
 pub returns-then-a-i : goal.returns-then-a-i
 returns-then-a-i c =
     sym (starts_differ c.args.a.now c.args.b.now c.loop-i.i c.if-a-i.true)
 
-pub loop-i-preserved : goal.loop-i-preserved
-loop-i-preserved c =
+pub loop_i_preserved : goal.loop_i_preserved
+loop_i_preserved c =
     let l = c.loop-i in (
       omega (arith, c.loop-i-test.true),
       λ j h.

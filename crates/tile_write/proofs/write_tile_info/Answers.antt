@@ -128,9 +128,9 @@ returns-then-not-reads_as c =
     let no : reads_as (again (given p) c.args.t) c.args.t ≡ false = sym (c.reads_as.ensures ∙ k.question) ∙ c.if-not-reads_as.true in
     told _ _ _ (unread (given p) c.args.t c.args.out.now c.refused-then-not-reads_as.result c.refused-then-not-reads_as.ensures k.in_it no)
 
-pub overflow_add-n : goal.overflow_add-n
-overflow_add-n c =
-    let k = read_row (goal.at.overflow_add-n c).After-reads_as in
+pub overflow_add_n : goal.overflow_add_n
+overflow_add_n c =
+    let k = read_row (goal.at.overflow_add_n c).After-reads_as in
     omega (arith, few _ _ _ _ _ k (sym c.reads_as.ensures ∙ c.if-not-reads_as.false))
 
 pub returns-then-out-n : goal.returns-then-out-n
@@ -138,9 +138,9 @@ returns-then-out-n c =
     let k = read_row (goal.at.returns-then-out-n c).After-reads_as in
     told _ _ _ (no_room _ _ _ _ _ k (sym c.reads_as.ensures ∙ c.if-not-reads_as.false) c.args.out.now c.refused-then-out-n.result c.refused-then-out-n.ensures c.if-out-n.true)
 
-pub put_bytes-requires : goal.put_bytes-requires
-put_bytes-requires c =
-    let k = read_row (goal.at.put_bytes-requires c).After-reads_as in
+pub put_bytes_requires : goal.put_bytes_requires
+put_bytes_requires c =
+    let k = read_row (goal.at.put_bytes_requires c).After-reads_as in
     let reads = sym c.reads_as.ensures ∙ c.if-not-reads_as.false in
     (c.if-out-n.false, omega (arith, few _ _ _ _ _ k reads, all_bytes _ _ _ _ _ k reads))
 

@@ -3,32 +3,32 @@ use borrow.Author.Rules.{rules}
 use lib.Seq.{length-take-le}
 use Rattle.vectors.proofs.lend_header.Goals as goal
 
-pub held_at-a-requires : goal.held_at-a-requires
-held_at-a-requires c = tt
+pub held_at_a_requires : goal.held_at_a_requires
+held_at_a_requires c = tt
 
-pub held_at-b-requires : goal.held_at-b-requires
-held_at-b-requires c = tt
+pub held_at_b_requires : goal.held_at_b_requires
+held_at_b_requires c = tt
 
-pub held_at-c-requires : goal.held_at-c-requires
-held_at-c-requires c = tt
+pub held_at_c_requires : goal.held_at_c_requires
+held_at_c_requires c = tt
 
-pub held_at-d-requires : goal.held_at-d-requires
-held_at-d-requires c = tt
+pub held_at_d_requires : goal.held_at_d_requires
+held_at_d_requires c = tt
 
-pub u8_at-requires : goal.u8_at-requires
-u8_at-requires c = tt
+pub u8_at_requires : goal.u8_at_requires
+u8_at_requires c = tt
 
-pub slice_bounds-mubanlig_parse_seq_hdr-end-2 : goal.slice_bounds-mubanlig_parse_seq_hdr-end-2
-slice_bounds-mubanlig_parse_seq_hdr-end-2 c = sym (length-take-le _ _ (search rules))
+pub slice_bounds_mubanlig_parse_seq_hdr_end_2 : goal.slice_bounds_mubanlig_parse_seq_hdr_end_2
+slice_bounds_mubanlig_parse_seq_hdr_end_2 c = sym (length-take-le _ _ (search rules))
 
-pub slice_bounds-mubanlig_parse_seq_hdr-end-4 : goal.slice_bounds-mubanlig_parse_seq_hdr-end-4
-slice_bounds-mubanlig_parse_seq_hdr-end-4 c = sym (length-take-le _ _ (search rules))
+pub slice_bounds_mubanlig_parse_seq_hdr_end_4 : goal.slice_bounds_mubanlig_parse_seq_hdr_end_4
+slice_bounds_mubanlig_parse_seq_hdr_end_4 c = sym (length-take-le _ _ (search rules))
 
-pub slice_bounds-mubanlig_parse_seq_hdr-end-6 : goal.slice_bounds-mubanlig_parse_seq_hdr-end-6
-slice_bounds-mubanlig_parse_seq_hdr-end-6 c = sym (length-take-le _ _ (search rules))
+pub slice_bounds_mubanlig_parse_seq_hdr_end_6 : goal.slice_bounds_mubanlig_parse_seq_hdr_end_6
+slice_bounds_mubanlig_parse_seq_hdr_end_6 c = sym (length-take-le _ _ (search rules))
 
-pub slice_bounds-mubanlig_parse_seq_hdr-end-8 : goal.slice_bounds-mubanlig_parse_seq_hdr-end-8
-slice_bounds-mubanlig_parse_seq_hdr-end-8 c = sym (length-take-le _ _ (search rules))
+pub slice_bounds_mubanlig_parse_seq_hdr_end_8 : goal.slice_bounds_mubanlig_parse_seq_hdr_end_8
+slice_bounds_mubanlig_parse_seq_hdr_end_8 c = sym (length-take-le _ _ (search rules))
 
-pub mubanlig_parse_seq_hdr-requires : goal.mubanlig_parse_seq_hdr-requires
-mubanlig_parse_seq_hdr-requires c = tt
+pub mubanlig_parse_seq_hdr_requires : goal.mubanlig_parse_seq_hdr_requires
+mubanlig_parse_seq_hdr_requires c = tt

@@ -5,11 +5,11 @@ use lib.Seq.{length-take-le}
 use Rattle.verdicts.proofs.Rows.{enough, few_stored, few_ours}
 use Rattle.verdicts.proofs.agrees.Goals as goal
 
-pub slice_bounds-all_same-end : goal.slice_bounds-all_same-end
-slice_bounds-all_same-end c = sym (length-take-le _ _ (search rules))
+pub slice_bounds_all_same_end : goal.slice_bounds_all_same_end
+slice_bounds_all_same_end c = sym (length-take-le _ _ (search rules))
 
-pub slice_bounds-all_same-end-then-m-stored : goal.slice_bounds-all_same-end-then-m-stored
-slice_bounds-all_same-end-then-m-stored c = sym (length-take-le _ _ (search rules))
+pub slice_bounds_all_same_end_then_m_stored : goal.slice_bounds_all_same_end_then_m_stored
+slice_bounds_all_same_end_then_m_stored c = sym (length-take-le _ _ (search rules))
 
 pub returns-then-m-stored : goal.returns-then-m-stored
 returns-then-m-stored c =

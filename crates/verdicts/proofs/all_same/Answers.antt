@@ -10,13 +10,13 @@ returns-then-ours-stored c =
     let e = other_count a.ours.now a.stored.now c.if-ours-stored.true in
     record { equation = e; tells = told a.ours.now a.stored.now _ e }
 
-pub loop-i-init : goal.loop-i-init
-loop-i-init c =
+pub loop_i_init : goal.loop_i_init
+loop_i_init c =
     let a = c.args in
     (omega arith, omega arith, from_first a.ours.now a.stored.now)
 
-pub loop-i-preserved : goal.loop-i-preserved
-loop-i-preserved c =
+pub loop_i_preserved : goal.loop_i_preserved
+loop_i_preserved c =
     let l = c.loop-i in
     let a = c.args in
     (omega arith, l.invariant.1, rw (c.same-good.ensures, to_z-of_z {w = w64} (record { sfits = c.same-arg-1.given })) (one_on a.ours.now a.stored.now l.good l.i (omega arith) (omega arith) l.invariant.2))

@@ -14,8 +14,8 @@ read c = back c.signed.result c.signed.type_inv
 wide : (c : goal.After-signed) → SFits w64 c.signed.result
 wide c = record { sfits = lt_of_lt_of_le c.signed.type_inv (lit≤ tt) }
 
-pub overflow_cast-result-2 : goal.overflow_cast-result-2
-overflow_cast-result-2 c = rw (read c) (wide c)
+pub overflow_cast_result_2 : goal.overflow_cast_result_2
+overflow_cast_result_2 c = rw (read c) (wide c)
 
 pub returns : goal.returns
 returns c =

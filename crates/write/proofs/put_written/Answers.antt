@@ -8,10 +8,10 @@ use Rattle.write.proofs.put_written.Goals as goal
 pub returns-then-is_refusal : goal.returns-then-is_refusal
 unfolding written_text
 returns-then-is_refusal c =
-    rw (← c.write_request-r.ensures, ← c.is_refusal.ensures, c.if-is_refusal.true, ← c.number.ensures) (within (omega arith) c.Put-refused.ensures)
+    rw (← c.write_request-r.ensures, ← c.is_refusal.ensures, c.if-is_refusal.true, ← c.number.ensures) (within (omega arith) c.put_refused.ensures)
 
-pub put_bits-requires : goal.put_bits-requires
-put_bits-requires c =
+pub put_bits_requires : goal.put_bits_requires
+put_bits_requires c =
     few _ _ _ (c.write_request-r.result, c.write_request-r.new.1.0) c.write_request-r.ensures (sym c.is_refusal.ensures ∙ c.if-is_refusal.false)
 
 pub returns : goal.returns

@@ -12,8 +12,8 @@ use Rattle.film_grain.proofs.coeffs.bits_less.Goals as goal
 back : (c : goal.After-minus) → to_z w16 (of_z w16 c.minus.result) ≡ c.minus.result
 back c = search rules
 
-pub minus-requires : goal.minus-requires
-minus-requires c =
+pub minus_requires : goal.minus_requires
+minus_requires c =
     (omega (arith, at_most _ _ c.args.n 9 c.requires.0 c.read_bits-r.ensures), c.requires.1)
 
 pub returns : goal.returns

@@ -14,8 +14,8 @@ fits c =
 back : (c : goal.After-minus) → to_z w16 (of_z w16 c.minus.result) ≡ c.minus.result
 back c = search rules
 
-pub overflow_cast-result : goal.overflow_cast-result
-overflow_cast-result c = rw (back c) (fits c)
+pub overflow_cast_result : goal.overflow_cast_result
+overflow_cast_result c = rw (back c) (fits c)
 
 pub returns : goal.returns
 returns c = rw (back c, to_z-of_z w8 _ (fits c)) c.minus.ensures

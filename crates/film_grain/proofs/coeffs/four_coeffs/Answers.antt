@@ -97,36 +97,36 @@ back_3 c = search rules
 back_4 : (c : After-skip) → to_z w8 (of_z w8 c.centred-4.result) ≡ c.centred-4.result
 back_4 c = search rules
 
-pub centred-requires : goal.centred-requires
-centred-requires c =
+pub centred_requires : goal.centred_requires
+centred_requires c =
     let small_half : c.args.half ≤ 128 = omega (arith, c.requires.2, pow_mono {i = c.args.coef_bits - 1} {j = 7} (omega (arith, c.requires.1))) in
     let all_bits_lem : let a = c.args in c.look_ahead-w.result ≡ bits_at a.s.now (position a.s.now a.p) (4 * a.coef_bits) = look_bits c.args.s.now c.args.p (4 * c.args.coef_bits) (omega (arith, c.requires.1)) c.look_ahead-w.ensures in
     let a = c.args in
-    (omega (arith, first_lt a.s.now a.p a.coef_bits c.look_ahead-w.result c.requires.1 c.requires.4 (all_bits_lem), range (goal.at.centred-requires c).After-power-low), small_half)
+    (omega (arith, first_lt a.s.now a.p a.coef_bits c.look_ahead-w.result c.requires.1 c.requires.4 (all_bits_lem), range (goal.at.centred_requires c).After-power-low), small_half)
 
-pub centred-requires-2 : goal.centred-requires-2
-centred-requires-2 c =
+pub centred_requires_2 : goal.centred_requires_2
+centred_requires_2 c =
     let small_half : c.args.half ≤ 128 = omega (arith, c.requires.2, pow_mono {i = c.args.coef_bits - 1} {j = 7} (omega (arith, c.requires.1))) in
-    (rest (goal.at.centred-requires-2 c).After-power-low _, small_half)
+    (rest (goal.at.centred_requires_2 c).After-power-low _, small_half)
 
-pub bounds-coeffs-i-2 : goal.bounds-coeffs-i-2
-bounds-coeffs-i-2 c = simp length-set (omega (arith, c.requires.3))
+pub bounds_coeffs_i_2 : goal.bounds_coeffs_i_2
+bounds_coeffs_i_2 c = simp length-set (omega (arith, c.requires.3))
 
-pub centred-requires-3 : goal.centred-requires-3
-centred-requires-3 c =
+pub centred_requires_3 : goal.centred_requires_3
+centred_requires_3 c =
     let small_half : c.args.half ≤ 128 = omega (arith, c.requires.2, pow_mono {i = c.args.coef_bits - 1} {j = 7} (omega (arith, c.requires.1))) in
-    (rest (goal.at.centred-requires-3 c).After-power-low _, small_half)
+    (rest (goal.at.centred_requires_3 c).After-power-low _, small_half)
 
-pub bounds-coeffs-i-3 : goal.bounds-coeffs-i-3
-bounds-coeffs-i-3 c = simp length-set (omega (arith, c.requires.3))
+pub bounds_coeffs_i_3 : goal.bounds_coeffs_i_3
+bounds_coeffs_i_3 c = simp length-set (omega (arith, c.requires.3))
 
-pub centred-requires-4 : goal.centred-requires-4
-centred-requires-4 c =
+pub centred_requires_4 : goal.centred_requires_4
+centred_requires_4 c =
     let small_half : c.args.half ≤ 128 = omega (arith, c.requires.2, pow_mono {i = c.args.coef_bits - 1} {j = 7} (omega (arith, c.requires.1))) in
-    (rest (goal.at.centred-requires-4 c).After-power-low _, small_half)
+    (rest (goal.at.centred_requires_4 c).After-power-low _, small_half)
 
-pub bounds-coeffs-i-4 : goal.bounds-coeffs-i-4
-bounds-coeffs-i-4 c = simp length-set (omega (arith, c.requires.3))
+pub bounds_coeffs_i_4 : goal.bounds_coeffs_i_4
+bounds_coeffs_i_4 c = simp length-set (omega (arith, c.requires.3))
 
 pub returns : goal.returns
 returns c =

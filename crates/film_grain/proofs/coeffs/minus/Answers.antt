@@ -11,8 +11,8 @@ fits s =
     let d = difference s.args.v s.args.less 512 (omega (arith, s.requires.0)) (omega (arith, s.requires.1)) (omega arith) in
     record { sfits = omega (arith, d) }
 
-pub overflow_sub-result : goal.overflow_sub-result
-overflow_sub-result c =
+pub overflow_sub_result : goal.overflow_sub_result
+overflow_sub_result c =
     simp (to_z_pos w16 c.args.v (omega (arith, c.requires.0)), to_z_pos w16 c.args.less (omega (arith, c.requires.1))) (fits c)
 
 pub returns : goal.returns

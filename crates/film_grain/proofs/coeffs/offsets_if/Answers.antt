@@ -48,8 +48,8 @@ back_5 c = search rules
 back_6 : (c : goal.After-struct_told-then-cond-2-1) → to_z w16 (of_z w16 c.bits_less-offset.result.value) ≡ c.bits_less-offset.result.value
 back_6 c = search rules
 
-pub minus-requires : goal.minus-requires
-minus-requires c =
+pub minus_requires : goal.minus_requires
+minus_requires c =
     let all_bits_lem : let a = c.args in c.look_ahead-w.result ≡ bits_at a.s.now (position a.s.now a.p) 25 = let a = c.args in look_bits a.s.now a.p 25 (omega arith) c.look_ahead-w.ensures in
     let a = c.args in (omega (arith, all_bits_lem, bits_lt a.s.now (position a.s.now a.p) 25), omega arith)
 

@@ -51,28 +51,28 @@ fits c =
 back : (c : After-bits_less-c) → to_z w16 (of_z w16 c.bits_less-c.result.value) ≡ c.bits_less-c.result.value
 back c = search rules
 
-pub loop-i-init : goal.loop-i-init
+pub loop_i_init : goal.loop_i_init
 unfolding turns
-loop-i-init c = let z = c.requires.3 in (omega arith, rw z refl, rw z refl)
+loop_i_init c = let z = c.requires.3 in (omega arith, rw z refl, rw z refl)
 
-pub four_coeffs-next-requires : goal.four_coeffs-next-requires
-four_coeffs-next-requires c =
+pub four_coeffs_next_requires : goal.four_coeffs_next_requires
+four_coeffs_next_requires c =
     let t = both (leb (c.loop-i.i + 4) c.args.n) c.more_than.result c.if-i-n.true in
     (c.requires.1, c.requires.2, half c.requires.2 c.power-half.ensures.0, omega (arith, leb-true (c.loop-i.i + 4) c.args.n t.0, c.requires.0, c.loop-i.invariant.1), more_there c.args.s.now c.loop-i.next (4 * c.args.coef_bits) c.more_than.ensures t.1)
 
-pub overflow_mul-coef_bits : goal.overflow_mul-coef_bits
-overflow_mul-coef_bits c = omega (arith, c.requires.2)
+pub overflow_mul_coef_bits : goal.overflow_mul_coef_bits
+overflow_mul_coef_bits c = omega (arith, c.requires.2)
 
-pub overflow_add-i-then-i-n : goal.overflow_add-i-then-i-n
-overflow_add-i-then-i-n c =
+pub overflow_add_i_then_i_n : goal.overflow_add_i_then_i_n
+overflow_add_i_then_i_n c =
     omega (arith, leb-true (c.loop-i.i + 4) c.args.n (both _ _ c.if-i-n.true).0, c.requires.0)
 
-pub loop-i-smaller-then-i-n : goal.loop-i-smaller-then-i-n
-loop-i-smaller-then-i-n c =
+pub loop_i_smaller_then_i_n : goal.loop_i_smaller_then_i_n
+loop_i_smaller_then_i_n c =
     omega (arith, leb-true (c.loop-i.i + 4) c.args.n (both _ _ c.if-i-n.true).0)
 
-pub loop-i-preserved-then-i-n : goal.loop-i-preserved-then-i-n
-loop-i-preserved-then-i-n c =
+pub loop_i_preserved_then_i_n : goal.loop_i_preserved_then_i_n
+loop_i_preserved_then_i_n c =
     let f = coeff c.args.s.now c.args.coef_bits in
     let start = no_coeffs c.args.p in
     let i = c.loop-i.i in (
@@ -81,25 +81,25 @@ loop-i-preserved-then-i-n c =
       c.four_coeffs-next.ensures ∙ ap (λ (x : CoeffsRead). f (i + 3) (f (i + 2) (f (i + 1) (f i x)))) c.loop-i.invariant.2 ∙ sym (four_more i f start),
     )
 
-pub bits_less-c-requires : goal.bits_less-c-requires
-bits_less-c-requires c = (omega (arith, c.requires.2), omega (arith, small c.requires.2 c.power-half.ensures.0))
+pub bits_less_c_requires : goal.bits_less_c_requires
+bits_less_c_requires c = (omega (arith, c.requires.2), omega (arith, small c.requires.2 c.power-half.ensures.0))
 
-pub overflow_cast-coeffs : goal.overflow_cast-coeffs
-overflow_cast-coeffs c = rw (back (goal.at.overflow_cast-coeffs c).After-bits_less-c) (fits (goal.at.overflow_cast-coeffs c).After-bits_less-c)
+pub overflow_cast_coeffs : goal.overflow_cast_coeffs
+overflow_cast_coeffs c = rw (back (goal.at.overflow_cast_coeffs c).After-bits_less-c) (fits (goal.at.overflow_cast_coeffs c).After-bits_less-c)
 
-pub bounds-coeffs-i : goal.bounds-coeffs-i
-bounds-coeffs-i c = omega (arith, c.loop-i.invariant.1, c.requires.0)
+pub bounds_coeffs_i : goal.bounds_coeffs_i
+bounds_coeffs_i c = omega (arith, c.loop-i.invariant.1, c.requires.0)
 
-pub loop-i-preserved : goal.loop-i-preserved
+pub loop_i_preserved : goal.loop_i_preserved
 unfolding coeff
-loop-i-preserved c = (
+loop_i_preserved c = (
   omega arith,
   simp length-set c.loop-i.invariant.1,
-  rw (back (goal.at.loop-i-preserved c).After-bits_less-c, to_z-of_z w8 _ (fits (goal.at.loop-i-preserved c).After-bits_less-c)) (sym (turns_more _ _ _ ∙ ap (coeff _ _ _) (sym c.loop-i.invariant.2) ∙ through _ _ (read (goal.at.loop-i-preserved c).After-bits_less-c))),
+  rw (back (goal.at.loop_i_preserved c).After-bits_less-c, to_z-of_z w8 _ (fits (goal.at.loop_i_preserved c).After-bits_less-c)) (sym (turns_more _ _ _ ∙ ap (coeff _ _ _) (sym c.loop-i.invariant.2) ∙ through _ _ (read (goal.at.loop_i_preserved c).After-bits_less-c))),
 )
 
-pub shape_of-coeffs : goal.shape_of-coeffs
-shape_of-coeffs c = c.loop-i.invariant.1 ∙ sym (rw c.requires.3 refl)
+pub shape_of_coeffs : goal.shape_of_coeffs
+shape_of_coeffs c = c.loop-i.invariant.1 ∙ sym (rw c.requires.3 refl)
 
 pub returns : goal.returns
 unfolding coeffs_from

@@ -52,8 +52,8 @@ module _ (s : List ℕ) (p : Place) (w : ℕ) (room : position s p + 9 ≤ bit_c
   scaling : record { value = w % 4; next = place_at (position s p + 9) p.error } ≡ get_small s (place_at (position s p + 7) p.error) 2
   scaling = sym (uncut _ _ 2 (omega arith) (last_read s p 7 2 w room e (omega arith)))
 
-pub overflow_cast-n : goal.overflow_cast-n
-overflow_cast-n c =
+pub overflow_cast_n : goal.overflow_cast_n
+overflow_cast_n c =
     let nine : let a = c.args in c.look_ahead-w.result ≡ bits_at a.s.now (position a.s.now a.p) 9 = let a = c.args in look_bits a.s.now a.p 9 (omega arith) c.look_ahead-w.ensures in
     omega (arith, nine, bits_lt c.args.s.now (position c.args.s.now c.args.p) 9)
 

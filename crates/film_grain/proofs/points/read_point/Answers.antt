@@ -14,8 +14,8 @@ use Rattle.film_grain.proofs.points.read_point.Goals.{After-skip}
 room : (c : After-skip) → let a = c.args in position a.s.now a.p + (a.index_bits + a.scaling_bits) ≤ bit_count a.s.now
 room c = let a = c.args in more_there a.s.now a.p (a.index_bits + a.scaling_bits) c.more_than.ensures c.if-more_than.true
 
-pub overflow_cast-result : goal.overflow_cast-result
-overflow_cast-result c =
+pub overflow_cast_result : goal.overflow_cast_result
+overflow_cast_result c =
     let low : c.power.result ≡ 2 ^ c.args.scaling_bits = power_below (omega (arith, c.requires.3)) c.power.ensures.0 in
     let n = c.args.scaling_bits in
     record { fits = rw (low) (omega (arith, mod-lt c.look_ahead-w.result (pow_pos n), pow_mono {i = n} {j = 8} c.requires.3)) }

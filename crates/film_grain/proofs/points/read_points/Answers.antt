@@ -33,21 +33,21 @@ module _ (s : List ℕ) (index-bits scaling-bits i n base : ℕ) (points : List 
       ∙ through _ _ f
       ∙ rw e
 
-pub loop-i-init : goal.loop-i-init
+pub loop_i_init : goal.loop_i_init
 unfolding turns
-loop-i-init c = let z = c.requires.5 in (omega arith, omega arith, rw z refl, rw z refl)
+loop_i_init c = let z = c.requires.5 in (omega arith, omega arith, rw z refl, rw z refl)
 
-pub read_point-r-requires : goal.read_point-r-requires
-read_point-r-requires c =
+pub read_point_r_requires : goal.read_point_r_requires
+read_point_r_requires c =
     let p = c.requires in
     (p.1, p.2, p.3, p.4)
 
-pub overflow_add-base : goal.overflow_add-base
-overflow_add-base c =
+pub overflow_add_base : goal.overflow_add_base
+overflow_add_base c =
     omega (arith, c.read_point-r.ensures.step_value, at_most c.args.s.now c.loop-i.next c.args.index_bits 8 c.requires.2 refl, c.loop-i.invariant.1)
 
-pub shape_of-points-then-base-gt255 : goal.shape_of-points-then-base-gt255
-shape_of-points-then-base-gt255 c = c.loop-i.invariant.2 ∙ sym (rw c.requires.5 refl)
+pub shape_of_points_then_base_gt255 : goal.shape_of_points_then_base_gt255
+shape_of_points_then_base_gt255 c = c.loop-i.invariant.2 ∙ sym (rw c.requires.5 refl)
 
 pub returns-then-base-gt255 : goal.returns-then-base-gt255
 unfolding points_from
@@ -65,17 +65,17 @@ returns-then-base-gt255 c =
     rw (c.no_points.ensures, c.read_bits-step.ensures)
     (sym (ap (λ (m : ℕ). turns m f start) e ∙ refused_stays a.s.now a.index_bits a.scaling_bits (i + 1) k start (ap (λ (x : PointsRead). x.refused) last) ∙ last))
 
-pub overflow_cast-points : goal.overflow_cast-points
-overflow_cast-points c = omega (arith, c.if-base-gt255.false)
+pub overflow_cast_points : goal.overflow_cast_points
+overflow_cast_points c = omega (arith, c.if-base-gt255.false)
 
-pub bounds-points-i : goal.bounds-points-i
-bounds-points-i c = omega (arith, c.loop-i.invariant.2, c.requires.0)
+pub bounds_points_i : goal.bounds_points_i
+bounds_points_i c = omega (arith, c.loop-i.invariant.2, c.requires.0)
 
-pub bounds-points-i-in-loop-i : goal.bounds-points-i-in-loop-i
-bounds-points-i-in-loop-i c = simp length-set (omega (arith, c.loop-i.invariant.2, c.requires.0))
+pub bounds_points_i_in_loop_i : goal.bounds_points_i_in_loop_i
+bounds_points_i_in_loop_i c = simp length-set (omega (arith, c.loop-i.invariant.2, c.requires.0))
 
-pub loop-i-preserved : goal.loop-i-preserved
-loop-i-preserved c =
+pub loop_i_preserved : goal.loop_i_preserved
+loop_i_preserved c =
     let a = c.args in (
       omega arith,
       c.if-base-gt255.false,
@@ -85,8 +85,8 @@ loop-i-preserved c =
           ∙ under a.s.now a.index_bits a.scaling_bits c.loop-i.i a.n c.loop-i.base c.loop-i.points c.loop-i.next c.read_point-r.ensures.step_value c.read_point-r.ensures.next_value c.if-base-gt255.false),
     )
 
-pub shape_of-points : goal.shape_of-points
-shape_of-points c = c.loop-i.invariant.2 ∙ sym (rw c.requires.5 refl)
+pub shape_of_points : goal.shape_of_points
+shape_of_points c = c.loop-i.invariant.2 ∙ sym (rw c.requires.5 refl)
 
 pub returns : goal.returns
 unfolding points_from

@@ -12,9 +12,9 @@ use Rattle.film_grain.proofs.points.read_points.Given as goal
 abbrev pub seen : ℕ → ℕ → List ℕ → Place → PointsRead
 seen n base points next = record { refused = false; num_points = n; base = base; list = record { points = points }; next = next }
 
-abbrev pub invariant-loop-i : goal.invariant-loop-i
-invariant-loop-i l =
+abbrev pub invariant_loop_i : goal.invariant_loop_i
+invariant_loop_i l =
     (l.i ≤ l.i-end) × (l.base ≤ 255) × (length l.points ≡ 28) × (seen l.n l.base l.points l.next ≡ turns l.i (point l.s l.index_bits l.scaling_bits) (no_points l.n false l.initial.next))
 
-abbrev pub decreases-loop-i : goal.decreases-loop-i
-decreases-loop-i l = l.i-end - l.i
+abbrev pub decreases_loop_i : goal.decreases_loop_i
+decreases_loop_i l = l.i-end - l.i

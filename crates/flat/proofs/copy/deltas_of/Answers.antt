@@ -1,4 +1,3 @@
-use Prim.Native.Nat.{◌-◌}
 use borrow.Author.Rules.{rules}
 use lib.IntN.{pos}
 use mir.Syntax.{w16}
@@ -6,14 +5,14 @@ use mir.Facts.{to_z-of_z}
 use Rattle.flat.proofs.Rows.{begun, filled, full}
 use Rattle.flat.proofs.copy.deltas_of.Goals as goal
 
-pub loop-i-init : goal.loop-i-init
-loop-i-init c = begun _ _ _
+pub loop_i_init : goal.loop_i_init
+loop_i_init c = begun _ _ _
 
-pub bounds-delta_q-i : goal.bounds-delta_q-i
-bounds-delta_q-i c = c.loop-i-test.true
+pub bounds_delta_q_i : goal.bounds_delta_q_i
+bounds_delta_q_i c = c.loop-i-test.true
 
-pub loop-i-preserved : goal.loop-i-preserved
-loop-i-preserved c =
+pub loop_i_preserved : goal.loop_i_preserved
+loop_i_preserved c =
     let a = c.args in
     filled 16 a.xs.now (pos 0) c.requires c.loop-i.delta_q c.loop-i.i _ c.loop-i-test.true (to_z-of_z {w = w16} (record { sfits = search rules })) c.loop-i.invariant
 

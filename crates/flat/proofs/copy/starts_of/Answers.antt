@@ -1,16 +1,15 @@
 use mathlib.Core.Path.{refl}
-use Prim.Native.Nat.{◌-◌}
 use Rattle.flat.proofs.Rows.{begun, filled, full}
 use Rattle.flat.proofs.copy.starts_of.Goals as goal
 
-pub loop-i-init : goal.loop-i-init
-loop-i-init c = begun _ _ _
+pub loop_i_init : goal.loop_i_init
+loop_i_init c = begun _ _ _
 
-pub bounds-starts-i : goal.bounds-starts-i
-bounds-starts-i c = c.loop-i-test.true
+pub bounds_starts_i : goal.bounds_starts_i
+bounds_starts_i c = c.loop-i-test.true
 
-pub loop-i-preserved : goal.loop-i-preserved
-loop-i-preserved c =
+pub loop_i_preserved : goal.loop_i_preserved
+loop_i_preserved c =
     let a = c.args in
     filled 65 a.xs.now 0 c.requires c.loop-i.starts c.loop-i.i _ c.loop-i-test.true refl c.loop-i.invariant
 

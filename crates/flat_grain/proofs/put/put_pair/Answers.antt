@@ -15,8 +15,8 @@ use Rattle.flat_grain.proofs.put.put_pair.Goals as goal
 back : (z : ℤ) → mag z < 2 ^ 15 → to_z w16 (of_z w16 z) ≡ z
 back z h = to_z-of_z {w = w16} (record { sfits = h })
 
-pub bounds-out-at-2 : goal.bounds-out-at-2
-bounds-out-at-2 c = simp length-set (omega (arith, c.requires))
+pub bounds_out_at_2 : goal.bounds_out_at_2
+bounds_out_at_2 c = simp length-set (omega (arith, c.requires))
 
 pub returns : goal.returns
 returns c =

@@ -5,8 +5,8 @@ use lib.ListN.{length}
 use Rattle.flat.proofs.Rows.{Copied}
 use Rattle.flat_hdr.proofs.put.put_bytes.Given as goal
 
-abbrev pub invariant-loop-i : goal.invariant-loop-i
-invariant-loop-i l = Copied l.initial.out l.at (map pos l.xs) l.out l.i
+abbrev pub invariant_loop_i : goal.invariant_loop_i
+invariant_loop_i l = Copied l.initial.out l.at (map pos l.xs) l.out l.i
 
-abbrev pub decreases-loop-i : goal.decreases-loop-i
-decreases-loop-i l = length l.xs - l.i
+abbrev pub decreases_loop_i : goal.decreases_loop_i
+decreases_loop_i l = length l.xs - l.i

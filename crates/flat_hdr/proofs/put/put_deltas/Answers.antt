@@ -1,5 +1,4 @@
 use mathlib.Core.Path.{refl}
-use Prim.Native.Nat.{◌-◌}
 use native.Mathlib.Omega.{arith}
 use borrow.Author.Rules.{rules}
 use lib.IntN.{pos}
@@ -8,22 +7,22 @@ use mir.Syntax.{w16, w64}
 use Rattle.flat.proofs.Rows.{begun, turned, copied, sign_fits, sign_kept}
 use Rattle.flat_hdr.proofs.put.put_deltas.Goals as goal
 
-pub loop-i-init : goal.loop-i-init
-loop-i-init c = begun _ _ _
+pub loop_i_init : goal.loop_i_init
+loop_i_init c = begun _ _ _
 
-pub overflow_cast-out : goal.overflow_cast-out
-overflow_cast-out c = sign_fits w16 w64 (get_or c.args.xs.now c.loop-i.i (pos 0)) tt (search rules)
+pub overflow_cast_out : goal.overflow_cast_out
+overflow_cast_out c = sign_fits w16 w64 (get_or c.args.xs.now c.loop-i.i (pos 0)) tt (search rules)
 
-pub bounds-out-at : goal.bounds-out-at
-bounds-out-at c = omega (arith, c.loop-i.invariant.long)
+pub bounds_out_at : goal.bounds_out_at
+bounds_out_at c = omega (arith, c.loop-i.invariant.long)
 
-pub loop-i-preserved : goal.loop-i-preserved
-loop-i-preserved c =
+pub loop_i_preserved : goal.loop_i_preserved
+loop_i_preserved c =
     let a = c.args in
     turned a.out.now a.at a.xs.now c.requires c.loop-i.out c.loop-i.i _ (pos 0) c.loop-i-test.true (sign_kept w16 w64 (get_or a.xs.now c.loop-i.i (pos 0)) tt (search rules)) c.loop-i.invariant
 
-pub shape_of-out : goal.shape_of-out
-shape_of-out c = c.loop-i.invariant.long
+pub shape_of_out : goal.shape_of_out
+shape_of_out c = c.loop-i.invariant.long
 
 pub returns : goal.returns
 returns c =

@@ -1,5 +1,5 @@
 use mathlib.Core.Path.{◌≡◌, sym, ap, ◌∙◌}
-use Prim.Native.Nat.{ℕ, ◌+◌, ◌-◌}
+use Prim.Native.Nat.{ℕ, ◌+◌}
 use native.Mathlib.Omega.{arith}
 use borrow.Author.Rules.{rules}
 use lib.Dec.{leb}
@@ -9,16 +9,16 @@ use Rattle.frame_layout.proofs.Usable.{low_more}
 use Rattle.frame_layout.specs.Frame.{starts_low}
 use Rattle.frame_hdr.proofs.domain.starts_low.Goals as goal
 
-pub loop-i-init : goal.loop-i-init
+pub loop_i_init : goal.loop_i_init
 unfolding starts_low
-loop-i-init c = (search rules, ap (λ (x : ℕ). leb x 1024) (sym (get_or-take 65 c.args.starts.now 0 0 (omega arith))))
+loop_i_init c = (search rules, ap (λ (x : ℕ). leb x 1024) (sym (get_or-take 65 c.args.starts.now 0 0 (omega arith))))
 
-pub bounds-starts-i : goal.bounds-starts-i
-bounds-starts-i c =
+pub bounds_starts_i : goal.bounds_starts_i
+bounds_starts_i c =
     omega (arith, c.requires.0, c.requires.1, c.loop-i-test.true)
 
-pub loop-i-preserved : goal.loop-i-preserved
-loop-i-preserved c =
+pub loop_i_preserved : goal.loop_i_preserved
+loop_i_preserved c =
     let l = c.loop-i in
     let starts = c.args.starts.now in (
       search rules,

@@ -7,8 +7,8 @@ use Rattle.getbits.proofs.Chain.{both}
 use Rattle.frame_layout.specs.Frame.{starts_low, usable_tiles}
 use Rattle.frame_hdr.proofs.domain.usable_tiles.Goals as goal
 
-pub starts_low-requires : goal.starts_low-requires
-starts_low-requires c =
+pub starts_low_requires : goal.starts_low_requires
+starts_low_requires c =
     let a = c.args in
     let few = both (leb 1 a.tiles && leb a.tiles 64) (leb a.log2 6) c.if-tiles-log2.true in
     (leb-true a.tiles 64 (both (leb 1 a.tiles) (leb a.tiles 64) few.0).1, c.requires)

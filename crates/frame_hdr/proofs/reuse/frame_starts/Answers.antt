@@ -11,13 +11,13 @@ use Rattle.superblocks.proofs.Counts.{low_multiplier, start_fits}
 use Rattle.frame_layout.proofs.Usable.{start_low}
 use Rattle.frame_hdr.proofs.reuse.frame_starts.Goals as goal
 
-pub loop-i-init : goal.loop-i-init
+pub loop_i_init : goal.loop_i_init
 unfolding tabulate
-loop-i-init c =
+loop_i_init c =
     (omega arith, cleared_front _ c.args.at.now c.requires.0 c.clear_starts.ensures, refl)
 
-pub loop-i-preserved : goal.loop-i-preserved
-loop-i-preserved c =
+pub loop_i_preserved : goal.loop_i_preserved
+loop_i_preserved c =
     let a = c.args in
     let l = c.loop-i in
     let starts = a.starts.now in

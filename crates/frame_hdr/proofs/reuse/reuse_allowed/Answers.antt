@@ -18,8 +18,8 @@ returns-then-uniform c =
     rw (c.fits_uniform-then-uniform.ensures, c.fits_uniform.ensures, c.frame_count-sbh.ensures, c.frame_count-sbw.ensures, code, w, h)
     (sym (left _ _ _ (on) ∙ taken _ _ _ c.if-uniform.true))
 
-pub same_counts-requires : goal.same_counts-requires
-same_counts-requires c =
+pub same_counts_requires : goal.same_counts_requires
+same_counts_requires c =
     omega (arith, c.of-pair.ensures.1, low_seq_code _ (domain _ c.requires.a_value))
 
 pub returns : goal.returns

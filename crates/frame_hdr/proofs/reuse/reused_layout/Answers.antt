@@ -1,8 +1,7 @@
 use mathlib.Core.Path.{◌≡◌, sym, ◌∙◌, ap}
-use Prim.Native.Nat.{ℕ, min, ◌≤◌}
+use Prim.Native.Nat.{ℕ, min}
 use native.Mathlib.Omega.{arith}
-use lib.ListN.{length}
-use Rattle.flat.specs.Layout.{Buffers, buffers, put_layout}
+use Rattle.flat.specs.Layout.{buffers, put_layout}
 use Rattle.flat.proofs.Room.{room, has_room_lem, put_over}
 use Rattle.tile_info.proofs.Into.{in_front}
 use Rattle.tile_layout.proofs.Domain.{domain, low_code, across, down}
@@ -14,15 +13,15 @@ use Rattle.frame_hdr.proofs.Into.{Held, held}
 use Rattle.frame_layout.proofs.Usable.{usable_tiles_lem}
 use Rattle.frame_hdr.proofs.reuse.reused_layout.Goals as goal
 
-pub reused_starts-requires : goal.reused_starts-requires
-reused_starts-requires c =
+pub reused_starts_requires : goal.reused_starts_requires
+reused_starts_requires c =
     let a = c.args in
     let code : min c.of-pair.result.frame_code 2 ≡ a.a.frame_code = omega (arith, c.of-pair.ensures.0, low_code _ (domain _ c.requires.a_value)) in
     let u = usable_tiles_lem _ _ _ c.requires.seq_cols_value in
     ((room (buffers a.info.now a.cols.now a.rows.now) c.requires.rows_value).cols, u.few, u.low, rw (c.frame_count-sbw.ensures, code) (across _ (domain _ c.requires.a_value)).most_all)
 
-pub reused_starts-requires-2 : goal.reused_starts-requires-2
-reused_starts-requires-2 c =
+pub reused_starts_requires_2 : goal.reused_starts_requires_2
+reused_starts_requires_2 c =
     let a = c.args in
     let code : min c.of-pair.result.frame_code 2 ≡ a.a.frame_code = omega (arith, c.of-pair.ensures.0, low_code _ (domain _ c.requires.a_value)) in
     let u = usable_tiles_lem _ _ _ c.requires.seq_rows_value in
@@ -47,6 +46,6 @@ returns c =
     let rows = rw (multiplied, c.frame_count-sbh.ensures, code) at c.reused_starts-2.ensures in
     put_over t b c.requires.rows_value
     (rw c.is_set.ensures at c.put_layout_bytes.ensures)
-    (in_front t.col_start_sb b.col_starts_lem room.cols cols)
-    (in_front t.row_start_sb b.row_starts_lem room.rows rows)
+    (in_front t.col_start_sb b.col_starts room.cols cols)
+    (in_front t.row_start_sb b.row_starts room.rows rows)
     ∙ ap (λ (x : TileInfo). put_layout (reused_info a x) b) (sym (held seq roomy))

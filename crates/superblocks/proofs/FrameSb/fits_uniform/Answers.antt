@@ -6,8 +6,8 @@ use Rattle.superblocks.proofs.FrameSb.fits_uniform.Goals as goal
 count : (c : goal.After-u32_to_u64-n) → c.u32_to_u64-tiles.result ≡ 2 ^ (c.args.log2 % 32)
 count c = c.u32_to_u64-tiles.ensures ∙ c.power.ensures.0
 
-pub overflow_mul-result : goal.overflow_mul-result
-overflow_mul-result c =
+pub overflow_mul_result : goal.overflow_mul_result
+overflow_mul_result c =
     let t = c.u32_to_u64-tiles.result in
     let x = c.u32_to_u64-n.result + (t - 1) in
     record { fits = lt_of_le_of_lt {m = x} (rw (← count c) (part_le x t)) (search rules) }

@@ -17,32 +17,32 @@ module _ (n d bits k q left : ℕ) (n< : n < 2 ^ 32) (d< : d < 2 ^ 32) (held : 2
   off : left < d * 2 ^ (k - 1) % 4294967296 → (2 ^ (k - 1) ≤ q) × Settled n d (k - 1) (q - 2 ^ (k - 1)) left
   off h = clear _ _ k q left more s (rw part at h)
 
-pub loop-k-init : goal.loop-k-init
-loop-k-init c =
+pub loop_k_init : goal.loop_k_init
+loop_k_init c =
     let a = c.args in
     let e = c.quotient_bits-k.ensures in
     (omega arith, rw (ones c.quotient_bits-k.result e.1) (start a.n a.d c.quotient_bits-k.result c.requires e.2))
 
-pub overflow_shl-part : goal.overflow_shl-part
-overflow_shl-part c = omega (arith, c.loop-k.invariant.0, c.quotient_bits-k.ensures.1)
+pub overflow_shl_part : goal.overflow_shl_part
+overflow_shl_part c = omega (arith, c.loop-k.invariant.0, c.quotient_bits-k.ensures.1)
 
-pub loop-k-preserved-then-part-left : goal.loop-k-preserved-then-part-left
-loop-k-preserved-then-part-left c =
+pub loop_k_preserved_then_part_left : goal.loop_k_preserved_then_part_left
+loop_k_preserved_then_part_left c =
     let l = c.loop-k in
     let e = c.quotient_bits-k.ensures in
     (omega (arith, l.invariant.0), on c.args.n c.args.d c.quotient_bits-k.result l.k l.q l.left c.ranges.n.fits c.ranges.d.fits e.3 c.loop-k-test.true l.invariant.0 l.invariant.1 c.if-part-left.true)
 
-pub overflow_shl-q : goal.overflow_shl-q
-overflow_shl-q c = omega (arith, c.loop-k.invariant.0, c.quotient_bits-k.ensures.1)
+pub overflow_shl_q : goal.overflow_shl_q
+overflow_shl_q c = omega (arith, c.loop-k.invariant.0, c.quotient_bits-k.ensures.1)
 
-pub overflow_sub-q-else-part-left : goal.overflow_sub-q-else-part-left
-overflow_sub-q-else-part-left c =
+pub overflow_sub_q_else_part_left : goal.overflow_sub_q_else_part_left
+overflow_sub_q_else_part_left c =
     let l = c.loop-k in
     let e = c.quotient_bits-k.ensures in
     rw (shl_one (l.k - 1) 32 (omega (arith, l.invariant.0, e.1))) (off c.args.n c.args.d c.quotient_bits-k.result l.k l.q l.left c.ranges.n.fits c.ranges.d.fits e.3 c.loop-k-test.true l.invariant.0 l.invariant.1 c.if-part-left.false).0
 
-pub loop-k-preserved : goal.loop-k-preserved
-loop-k-preserved c =
+pub loop_k_preserved : goal.loop_k_preserved
+loop_k_preserved c =
     let l = c.loop-k in
     let e = c.quotient_bits-k.ensures in (
       omega (arith, l.invariant.0),

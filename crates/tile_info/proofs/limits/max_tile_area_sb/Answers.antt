@@ -11,8 +11,8 @@ low : (c : goal.After-power) → c.power.result ≤ 8
 low c =
     rw c.power.ensures.0 (pow_mono {j = 3} (omega (arith, c.one_if-3.ensures.1, c.one_if-2.ensures.1, c.one_if.ensures.1)))
 
-pub overflow_mul-power : goal.overflow_mul-power
-overflow_mul-power c = omega (arith, low c)
+pub overflow_mul_power : goal.overflow_mul_power
+overflow_mul_power c = omega (arith, low c)
 
 pub returns : goal.returns
 unfolding area_limit

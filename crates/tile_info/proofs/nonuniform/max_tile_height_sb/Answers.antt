@@ -21,8 +21,8 @@ returns-then-k-eq0 c =
     ∙ ap (λ (x : ℕ). max 1 (x / c.args.widest_tile.0))
     (div-one _ ∙ area ∙ sym (taken (eqb (min_log2_tiles c.args.a) 0) _ _ (eq-eqb _ 0 (sym c.requires.known.min_tiles ∙ c.if-k-eq0.true))))
 
-pub overflow_add-k : goal.overflow_add-k
-overflow_add-k c = omega (arith, low_tiles _ (domain _ c.requires.a_value), c.requires.known.min_tiles)
+pub overflow_add_k : goal.overflow_add_k
+overflow_add_k c = omega (arith, low_tiles _ (domain _ c.requires.a_value), c.requires.known.min_tiles)
 
 pub returns : goal.returns
 unfolding row_limit row_area

@@ -8,8 +8,8 @@ use Rattle.tile_layout.proofs.Laws.{grow}
 use Rattle.tile_layout.specs.Limits.{tile_log2}
 use Rattle.tile_info.proofs.nonuniform.read_tiles.Goals as goal
 
-pub bounds-starts-tiles : goal.bounds-starts-tiles
-bounds-starts-tiles c =
+pub bounds_starts_tiles : goal.bounds_starts_tiles
+bounds_starts_tiles c =
     omega (arith, c.read_sizes-z.ensures.few, c.requires.0)
 
 pub returns : goal.returns

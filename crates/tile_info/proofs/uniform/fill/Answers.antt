@@ -16,20 +16,20 @@ use Rattle.tile_info.proofs.uniform.fill.Goals.{then-has, else-has}
 use Rattle.tile_info.proofs.uniform.fill.Goals as goal
 
 -- where tile i starts
-abbrev starts-of : ℕ → Split → ℕ → ℕ
-starts-of m z i = m * (z.tile.0 * i + min i z.extra.0)
+abbrev starts_of : ℕ → Split → ℕ → ℕ
+starts_of m z i = m * (z.tile.0 * i + min i z.extra.0)
 
 -- a tile that follows ends no later than the end
 ends : (z : Split) (i sbx : ℕ) → i < z.tiles.0 → z.tile.0 * z.tiles.0 + z.extra.0 ≤ 1024 → sbx ≡ z.tile.0 * i + min i z.extra.0 → sbx + z.tile.0 ≤ 1024
 ends z i sbx h k e = omega (arith, mul-le-mul_left {m = i + 1} {n = z.tiles.0} z.tile.0 (omega arith), times_next z.tile.0 i)
 
-pub loop-pair-init : goal.loop-pair-init
+pub loop_pair_init : goal.loop_pair_init
 unfolding tabulate
-loop-pair-init c =
+loop_pair_init c =
     (omega (arith, c.none-sbx.ensures, mul-zero c.args.split.tile.0), omega arith, cleared_front _ c.args.starts.now c.requires.0 c.clear_starts.ensures, refl)
 
-pub loop-pair-preserved : goal.loop-pair-preserved
-loop-pair-preserved c =
+pub loop_pair_preserved : goal.loop_pair_preserved
+loop_pair_preserved c =
     let l = c.loop-pair in
     let z = c.args.split in
     let m = multiplier_of c.args.pair.frame_code c.args.pair.seq_code in
@@ -49,7 +49,7 @@ pub returns : goal.returns
 returns c =
     let l = c.loop-pair in
     let a = c.args in
-    let f = starts-of (multiplier_of a.pair.frame_code a.pair.seq_code) a.split in
+    let f = starts_of (multiplier_of a.pair.frame_code a.pair.seq_code) a.split in
     let q : l.i ≡ a.split.tiles.0 = omega (arith, l.invariant.1, ltb-false l.i a.split.tiles.0 (sym c.has.ensures ∙ c.loop-pair-test.false)) in
     let v : c.number-2.result ≡ a.end.0 = omega (arith, c.number-2.ensures, c.requires.3) in
     let clear = c.clear_starts in

@@ -6,12 +6,12 @@ use Rattle.tile_layout.specs.Layout.{tabulate, padded}
 use Rattle.superblocks.specs.Counts.{multiplier_of}
 use Rattle.tile_info.proofs.uniform.fill.Given as goal
 
-abbrev pub invariant-loop-pair : goal.invariant-loop-pair
-invariant-loop-pair l =
+abbrev pub invariant_loop_pair : goal.invariant_loop_pair
+invariant_loop_pair l =
     (l.sbx.0 ≡ l.split.tile.0 * l.i + min l.i l.split.extra.0)
     × (l.i ≤ l.split.tiles.0)
     × (l.starts ≡ padded (tabulate (λ j. multiplier_of l.pair.frame_code l.pair.seq_code * (l.split.tile.0 * j + min j l.split.extra.0)) 0 l.i) ++ drop 65 l.initial.starts)
     × (length l.starts ≡ length l.initial.starts)
 
-abbrev pub decreases-loop-pair : goal.decreases-loop-pair
-decreases-loop-pair l = l.split.tiles.0 - l.i
+abbrev pub decreases_loop_pair : goal.decreases_loop_pair
+decreases_loop_pair l = l.split.tiles.0 - l.i

@@ -28,8 +28,8 @@ returns-then-most-least c =
     let none : a.most - a.least ≡ 0 = omega arith in
     record { reads = λ s p e. rw (none, add-zero) (refl, refl); low = (c.requires.0, omega arith) }
 
-pub overflow_shl-ones : goal.overflow_shl-ones
-overflow_shl-ones c = omega (arith, c.requires.2)
+pub overflow_shl_ones : goal.overflow_shl_ones
+overflow_shl_ones c = omega (arith, c.requires.2)
 
 pub returns-then-ones-left : goal.returns-then-ones-left
 returns-then-ones-left c =
@@ -60,17 +60,17 @@ returns c =
       low = (omega arith, omega arith);
     }
 
-pub overflow_cast-result : goal.overflow_cast-result
-overflow_cast-result c = omega arith
+pub overflow_cast_result : goal.overflow_cast_result
+overflow_cast_result c = omega arith
 
-pub overflow_add-result : goal.overflow_add-result
-overflow_add-result c = omega arith
+pub overflow_add_result : goal.overflow_add_result
+overflow_add_result c = omega arith
 
-pub overflow_add-result-then-ones-left : goal.overflow_add-result-then-ones-left
-overflow_add-result-then-ones-left c = omega arith
+pub overflow_add_result_then_ones_left : goal.overflow_add_result_then_ones_left
+overflow_add_result_then_ones_left c = omega arith
 
-pub overflow_add-result-then-ones-left-2 : goal.overflow_add-result-then-ones-left-2
-overflow_add-result-then-ones-left-2 c = omega arith
+pub overflow_add_result_then_ones_left_2 : goal.overflow_add_result_then_ones_left_2
+overflow_add_result_then_ones_left_2 c = omega arith
 
-pub overflow_add-result-2 : goal.overflow_add-result-2
-overflow_add-result-2 c = omega arith
+pub overflow_add_result_2 : goal.overflow_add_result_2
+overflow_add_result_2 c = omega arith

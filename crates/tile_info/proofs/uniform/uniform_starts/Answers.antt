@@ -41,8 +41,8 @@ module _ (a : TileArgs) (pair : Pair) (n log2 : ℕ) (d : in_domain a ≡ true) 
       let t' = rw code at et in
       rw (l, f', t') at e
 
-pub fill-requires : goal.fill-requires
-fill-requires c =
+pub fill_requires : goal.fill_requires
+fill_requires c =
     let a = c.args in
     let q = c.requires in
     let b = q.in_bounds in
