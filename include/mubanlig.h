@@ -4,7 +4,7 @@
  *
  * Link libcapi_bits.a (the readings), libcapi.a (headers, segments, and layouts written as bits), libcapi_tiles.a (layouts and their
  * rectangles), libcapi_frame.a (frames' layouts), libcapi_within.a (layouts within a limit) and libcapi_grain.a (film grain parameters),
- * which `rt staticlib` with capi_bits, capi, capi_tiles, capi_frame, capi_within and capi_grain proves and writes. docs/INTERFACE.md says
+ * which `./staticlib` with capi_bits, capi, capi_tiles, capi_frame, capi_within and capi_grain proves and writes. docs/INTERFACE.md says
  * what they promise.
  *
  * What holds of every call:
