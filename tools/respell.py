@@ -16,7 +16,7 @@ NAME = r"[\w'\-]+"
 # Lemmas whose names definitions take.
 LEMMAS = {"four_bytes": "getbits/proofs/Fields.antt", "has_room": "flat/proofs/Room.antt", "num_pos": "film_grain/proofs/Numbers.antt", "place_at": "getbits/proofs/Places.antt", "too_short": "flat_hdr/proofs/Rows.antt"}
 # Fields and variables that a definition shares its name with.
-SHARED = {"col-starts": "col_starts", "row-starts": "row_starts", "num-points": "num_points", "frame-within": "frame_within"}
+SHARED = {"col-starts": "col_starts", "row-starts": "row_starts", "num-points": "num_points"}
 KEEP = {"and-true", "or-true"}  # the library has these too
 MADE = re.compile(r"returns|(?:Need|Else|Then|After|At|In|Lts|Tie)-|-spec$")
 
@@ -75,7 +75,7 @@ def main():
         old = text = read(path)
         table = dict(camel)
         if path.endswith((".antt", ".edit")):
-            table.update(dashed)
+            table.update({name: snake(name) if "/specs/" in path else new for name, new in dashed.items()})
             for name, where in LEMMAS.items():
                 crate = where.split("/")[0]
                 if camel.get(next((c for c in camel if camel[c] == name), None)) == name and uses(text, name, path, where, crate):

@@ -43,10 +43,10 @@ frame_covers s p h q f =
 layout_within : (s : List ℕ) (p : Place) (old : TileInfo) (a : TileArgs) (m : TileLimit) → LayoutCovers a (parse_tile_info_within s p old a m)
 layout_within s p old a m = within_accepted (λ t. Covering t a.frame_code a.width a.height) m old (parse_tile_info s p old a) (layout_covers s p old a)
 
-frame_within : (s : List ℕ) (p : Place) (h : FrameHeader) (q : SeqLayout) (m : TileLimit) → (read_reuse s p (frame_args h q) q).value ≡ false
+frame_within_lem : (s : List ℕ) (p : Place) (h : FrameHeader) (q : SeqLayout) (m : TileLimit) → (read_reuse s p (frame_args h q) q).value ≡ false
     → FrameCovers (parse_tile_info_frmhdr_within s p h q m)
 unfolding frame_within
-frame_within s p h q m f = picked FrameCovers (is_too_many m (frame_tiles (parse_tile_info_frmhdr s p h q))) _ _ (λ _ e. contrary refl e) (λ _. frame_covers s p h q f)
+frame_within_lem s p h q m f = picked FrameCovers (is_too_many m (frame_tiles (parse_tile_info_frmhdr s p h q))) _ _ (λ _ e. contrary refl e) (λ _. frame_covers s p h q f)
 
 -- the tiling of a header whose fields before it are hdr's
 tiling_covers : (hdr : SequenceHeader) (s : List ℕ) (p : Place)
@@ -70,6 +70,6 @@ fresh_covers =
       layout = layout_covers;
       frame = frame_covers;
       layout_within = layout_within;
-      frame_within = frame_within;
+      frame_within = frame_within_lem;
       header = header_covers;
     }

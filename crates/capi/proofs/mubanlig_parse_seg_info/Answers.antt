@@ -2,8 +2,7 @@ use mathlib.Core.Path.{refl, sym, ◌∙◌}
 use borrow.Author.Tests.{le-leb, lt-leb}
 use lib.Dec.{leb}
 use lib.ListN.{length}
-use Rattle.answers.specs.declared.Answer.TheVariants.{Accepted, ShortBuffer}
-use Rattle.getbits.specs.Bits.{settled}
+use Rattle.answers.specs.declared.Answer.TheVariants.{Accepted}
 use Rattle.getbits.proofs.Chain.{through, taken, left, both_hold}
 use Rattle.capi.specs.Calls.{lent_seg_info}
 use Rattle.lent.specs.Lent.{place_of}
@@ -16,7 +15,7 @@ returns-then-delta_q-lt16 c =
     let a = c.args in
     let fails = first_fails _ (leb 3 (length a.masks.now)) (lt-leb 16 (length a.delta_q.now) c.if-delta_q-lt16.true) in
     record {
-      masks_after = triple (row ShortBuffer (settled a.s.now (place_of a.position.now a.error.now)) a.error.now refl c.settle_place.ensures) refl refl ∙ sym (left _ _ _ fails);
+      masks_after = sym (left _ _ _ fails);
       delta_q_unchanged = λ _. refl;
       masks_unchanged = λ _. refl;
     }
@@ -27,7 +26,7 @@ returns-then-masks-lt3 c =
     let a = c.args in
     let fails = second_fails (leb 16 (length a.delta_q.now)) _ (lt-leb 3 (length a.masks.now) c.if-masks-lt3.true) in
     record {
-      masks_after = triple (row ShortBuffer (settled a.s.now (place_of a.position.now a.error.now)) a.error.now refl c.settle_place-then-masks-lt3.ensures) refl refl ∙ sym (left _ _ _ fails);
+      masks_after = sym (left _ _ _ fails);
       delta_q_unchanged = λ _. refl;
       masks_unchanged = λ _. refl;
     }

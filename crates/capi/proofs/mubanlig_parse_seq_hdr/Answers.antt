@@ -7,17 +7,17 @@ use lib.Dec.{leb}
 use lib.IntN.{ℤ}
 use lib.ListN.{length}
 use Rattle.answers.specs.Numbers.{number_of}
-use Rattle.answers.specs.declared.Answer.TheVariants.{ShortBuffer}
-use Rattle.getbits.specs.Bits.{settled}
 use Rattle.getbits.proofs.Chain.{through, taken, left, both_hold}
 use Rattle.getbits.specs.declared.Place.{Place}
-use Rattle.flat.specs.Layout.{Buffers, buffers, over_front, has_room, put_layout}
+use Rattle.flat.specs.Layout.{Buffers, buffers, over_front, has_room, put_layout, layout_in}
 use Rattle.flat_hdr.specs.Header.{flat_seq_hdr}
 use Rattle.capi.specs.Calls.{lent_header}
+use Rattle.capi.specs.Promises.{HeaderLeft}
 use Rattle.lent.specs.Lent.{is_set, place_of}
 use Rattle.lent.specs.Calls.{answered}
 use Rattle.seq_hdr.proofs.Refused.{header_refused}
 use Rattle.seq_hdr.specs.Header.{parse_seq_hdr}
+use Rattle.seq_hdr.specs.HeaderTiling.{HeaderTiling}
 use Rattle.seq_hdr.specs.Into.{parse_seq_hdr_into}
 use Rattle.seq_hdr.specs.declared.HeaderOutcome.{HeaderOutcome}
 use Rattle.lent.proofs.Calls.{row, triple, first_fails, second_fails}
@@ -46,13 +46,17 @@ module _ (s : List ℕ) (position error strict : ℕ) (hdr : List ℤ) (b : Buff
       → (numbers, o.1, o.2) ≡ lent_header s position error strict hdr b
   left_by long e r = triple r refl refl ∙ ap (λ (y : Read). (answered y.0.answer y.0.next error, y.1, y.2)) e ∙ lent_read long
 
+-- the same promise, in the words of the lent buffers
+left_of : (s : List ℕ) (p : Place) (n : ℕ) (b : Buffers) → HeaderTiling s p n (layout_in b) → HeaderLeft s p n b
+left_of s p n b h = record { demand3 = h.demand3; refused_with_2 = h.refused_with_2; refused_only_then = h.refused_only_then; layout = h.layout; cleared = h.cleared }
+
 pub returns-then-hdr-lt146 : goal.returns-then-hdr-lt146
 unfolding lent_header
 returns-then-hdr-lt146 c =
     let b : Buffers = buffers c.args.info.now c.args.col_start_sb.now c.args.row_start_sb.now in
     let fails = first_fails _ (has_room b) (lt-leb 146 (length c.args.hdr.now) c.if-hdr-lt146.true) in
     record {
-      after_after = triple (row ShortBuffer (settled c.args.s.now (place_of c.args.position.now c.args.error.now)) c.args.error.now refl c.settle_place.ensures) refl refl ∙ sym (left _ _ _ fails);
+      after_after = sym (left _ _ _ fails);
       hdr_unchanged = λ _. refl;
       info_unchanged = λ _. refl;
       col_start_sb_unchanged = λ _. refl;
@@ -70,7 +74,7 @@ returns-then-not-has_room c =
     let lacks = sym c.has_room.ensures ∙ c.if-not-has_room.true in
     let fails = second_fails (leb 146 (length c.args.hdr.now)) _ lacks in
     record {
-      after_after = triple (row ShortBuffer (settled c.args.s.now (place_of c.args.position.now c.args.error.now)) c.args.error.now refl c.settle_place-then-not-has_room.ensures) refl refl ∙ sym (left _ _ _ fails);
+      after_after = sym (left _ _ _ fails);
       hdr_unchanged = λ _. refl;
       info_unchanged = λ _. refl;
       col_start_sb_unchanged = λ _. refl;
@@ -104,5 +108,5 @@ returns c =
       info_after = λ e _. w.bytes e;
       col_start_sb_after = λ e _. w.col_starts e;
       row_start_sb_after = λ e _. w.row_starts e;
-      fact = λ _. rw c.number.ensures (rw c.place_of-p.ensures at (c.read_seq_hdr-r.ensures.fact_2 has));
+      fact = λ _. left_of _ _ _ _ (rw c.number.ensures (rw c.place_of-p.ensures at (c.read_seq_hdr-r.ensures.fact_2 has)));
     }

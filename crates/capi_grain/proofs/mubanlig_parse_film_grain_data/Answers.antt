@@ -2,7 +2,7 @@ use mathlib.Core.Path.{refl, sym, ◌∙◌}
 use native.Mathlib.Omega.{arith}
 use borrow.Author.Tests.{le-leb, lt-leb}
 use lib.ListN.{length}
-use Rattle.answers.specs.declared.Answer.TheVariants.{WrongArguments, ShortBuffer}
+use Rattle.answers.specs.declared.Answer.TheVariants.{WrongArguments}
 use Rattle.getbits.specs.Bits.{settled}
 use Rattle.getbits.proofs.Chain.{through, taken, left}
 use Rattle.lent.proofs.Calls.{row, pair}
@@ -19,7 +19,7 @@ returns-then-fgd-lt186 c =
     let a = c.args in
     let short = lt-leb 186 (length a.fgd.now) c.if-fgd-lt186.true in
     record {
-      fgd_after = pair (row ShortBuffer (settled a.s.now (place_of a.position.now a.error.now)) a.error.now refl c.settle_place.ensures) refl ∙ sym (left _ _ _ short);
+      fgd_after = sym (left _ _ _ short);
       fgd_unchanged = λ _. refl;
       fgd_unchanged_2 = λ _. refl;
       fgd_after_2 = λ h. absurd (omega arith);
