@@ -75,7 +75,7 @@ def main():
         old = text = read(path)
         table = dict(camel)
         if path.endswith((".antt", ".edit")):
-            table.update({name: snake(name) if "/specs/" in path else new for name, new in dashed.items()})
+            table.update(dashed)
             for name, where in LEMMAS.items():
                 crate = where.split("/")[0]
                 if camel.get(next((c for c in camel if camel[c] == name), None)) == name and uses(text, name, path, where, crate):

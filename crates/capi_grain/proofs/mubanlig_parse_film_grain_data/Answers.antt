@@ -32,7 +32,7 @@ returns-then-layout-gt3 c =
     let a = c.args in
     let room = le-leb 186 (length a.fgd.now) c.if-fgd-lt186.false in
     record {
-      fgd_after = pair (row WrongArguments (settled a.s.now (place_of a.position.now a.error.now)) a.error.now refl c.settle_place-then-layout-gt3.ensures) refl ∙ sym (taken _ _ _ room ∙ left _ _ _ (lt-leb a.layout 3 c.if-layout-gt3.true));
+      fgd_after = pair (row WrongArguments (settled a.s.now (place_of a.position.now a.error.now)) a.error.now refl c.settle_place.ensures) refl ∙ sym (taken _ _ _ room ∙ left _ _ _ (lt-leb a.layout 3 c.if-layout-gt3.true));
       fgd_unchanged = λ _. refl;
       fgd_unchanged_2 = λ _. refl;
       fgd_after_2 = λ h. absurd (omega arith);
