@@ -29,7 +29,7 @@ roomy = let none : ℕ = 0 in omega (arith, length-replicate 16384 none)
 pub returns-then-is_refusal : goal.returns-then-is_refusal
 unfolding rectangles_text
 returns-then-is_refusal c =
-    let called : let a = c.args in (c.tile_rectangles-answer.result, c.tile_rectangles-answer.new.1.1.1.1.0) ≡ tile_rectangles a.t a.sb128 (unsigned a.w) (unsigned a.h) zeros = let f = c.ranges in rw (to_z-of_z f.w, to_z-of_z f.h) at c.tile_rectangles-answer.ensures.out_after in
+    let called : let a = c.args in (c.tile_rectangles-answer.result, c.tile_rectangles-answer.new.out) ≡ tile_rectangles a.t a.sb128 (unsigned a.w) (unsigned a.h) zeros = let f = c.ranges in rw (to_z-of_z f.w, to_z-of_z f.h) at c.tile_rectangles-answer.ensures.out_after in
     let asked : let a = c.args in c.is_refusal.result ≡ not (has_rectangles a.t a.sb128 (unsigned a.w) (unsigned a.h)) = let a = c.args in
     c.is_refusal.ensures ∙ ap (λ (z : Answer × List ℕ). is_refusal z.0) (called) ∙ refuses a.t a.sb128 (unsigned a.w) (unsigned a.h) zeros roomy in
     let a = c.args in
@@ -39,7 +39,7 @@ returns-then-is_refusal c =
 
 pub overflow_mul-tiles : goal.overflow_mul-tiles
 overflow_mul-tiles c =
-    let called : let a = c.args in (c.tile_rectangles-answer.result, c.tile_rectangles-answer.new.1.1.1.1.0) ≡ tile_rectangles a.t a.sb128 (unsigned a.w) (unsigned a.h) zeros = let f = c.ranges in rw (to_z-of_z f.w, to_z-of_z f.h) at c.tile_rectangles-answer.ensures.out_after in
+    let called : let a = c.args in (c.tile_rectangles-answer.result, c.tile_rectangles-answer.new.out) ≡ tile_rectangles a.t a.sb128 (unsigned a.w) (unsigned a.h) zeros = let f = c.ranges in rw (to_z-of_z f.w, to_z-of_z f.h) at c.tile_rectangles-answer.ensures.out_after in
     let asked : let a = c.args in c.is_refusal.result ≡ not (has_rectangles a.t a.sb128 (unsigned a.w) (unsigned a.h)) = let a = c.args in
     c.is_refusal.ensures ∙ ap (λ (z : Answer × List ℕ). is_refusal z.0) (called) ∙ refuses a.t a.sb128 (unsigned a.w) (unsigned a.h) zeros roomy in
     let has : let a = c.args in has_rectangles a.t a.sb128 (unsigned a.w) (unsigned a.h) ≡ true = not-false _ (sym (asked) ∙ c.if-is_refusal.false) in
@@ -48,11 +48,11 @@ overflow_mul-tiles c =
 
 pub put_tiles-requires : goal.put_tiles-requires
 put_tiles-requires c =
-    let called : let a = c.args in (c.tile_rectangles-answer.result, c.tile_rectangles-answer.new.1.1.1.1.0) ≡ tile_rectangles a.t a.sb128 (unsigned a.w) (unsigned a.h) zeros = let f = c.ranges in rw (to_z-of_z f.w, to_z-of_z f.h) at c.tile_rectangles-answer.ensures.out_after in
+    let called : let a = c.args in (c.tile_rectangles-answer.result, c.tile_rectangles-answer.new.out) ≡ tile_rectangles a.t a.sb128 (unsigned a.w) (unsigned a.h) zeros = let f = c.ranges in rw (to_z-of_z f.w, to_z-of_z f.h) at c.tile_rectangles-answer.ensures.out_after in
     let asked : let a = c.args in c.is_refusal.result ≡ not (has_rectangles a.t a.sb128 (unsigned a.w) (unsigned a.h)) = let a = c.args in
     c.is_refusal.ensures ∙ ap (λ (z : Answer × List ℕ). is_refusal z.0) (called) ∙ refuses a.t a.sb128 (unsigned a.w) (unsigned a.h) zeros roomy in
     let has : let a = c.args in has_rectangles a.t a.sb128 (unsigned a.w) (unsigned a.h) ≡ true = not-false _ (sym (asked) ∙ c.if-is_refusal.false) in
-    let written : let a = c.args in c.tile_rectangles-answer.new.1.1.1.1.0 ≡ rectangles a.t a.sb128 (unsigned a.w) (unsigned a.h) ++ drop (rectangle_numbers a.t) zeros = let a = c.args in
+    let written : let a = c.args in c.tile_rectangles-answer.new.out ≡ rectangles a.t a.sb128 (unsigned a.w) (unsigned a.h) ++ drop (rectangle_numbers a.t) zeros = let a = c.args in
     ap (λ (z : Answer × List ℕ). z.1) (called ∙ accepted a.t a.sb128 (unsigned a.w) (unsigned a.h) zeros roomy (has)) in
     let a = c.args in
     omega (arith, ap length (written), length-append (rectangles a.t a.sb128 (unsigned a.w) (unsigned a.h)) (drop (rectangle_numbers a.t) zeros), long a.t a.sb128 (unsigned a.w) (unsigned a.h))
@@ -60,11 +60,11 @@ put_tiles-requires c =
 pub returns : goal.returns
 unfolding rectangles_text word
 returns c =
-    let called : let a = c.args in (c.tile_rectangles-answer.result, c.tile_rectangles-answer.new.1.1.1.1.0) ≡ tile_rectangles a.t a.sb128 (unsigned a.w) (unsigned a.h) zeros = let f = c.ranges in rw (to_z-of_z f.w, to_z-of_z f.h) at c.tile_rectangles-answer.ensures.out_after in
+    let called : let a = c.args in (c.tile_rectangles-answer.result, c.tile_rectangles-answer.new.out) ≡ tile_rectangles a.t a.sb128 (unsigned a.w) (unsigned a.h) zeros = let f = c.ranges in rw (to_z-of_z f.w, to_z-of_z f.h) at c.tile_rectangles-answer.ensures.out_after in
     let asked : let a = c.args in c.is_refusal.result ≡ not (has_rectangles a.t a.sb128 (unsigned a.w) (unsigned a.h)) = let a = c.args in
     c.is_refusal.ensures ∙ ap (λ (z : Answer × List ℕ). is_refusal z.0) (called) ∙ refuses a.t a.sb128 (unsigned a.w) (unsigned a.h) zeros roomy in
     let has : let a = c.args in has_rectangles a.t a.sb128 (unsigned a.w) (unsigned a.h) ≡ true = not-false _ (sym (asked) ∙ c.if-is_refusal.false) in
-    let written : let a = c.args in c.tile_rectangles-answer.new.1.1.1.1.0 ≡ rectangles a.t a.sb128 (unsigned a.w) (unsigned a.h) ++ drop (rectangle_numbers a.t) zeros = let a = c.args in
+    let written : let a = c.args in c.tile_rectangles-answer.new.out ≡ rectangles a.t a.sb128 (unsigned a.w) (unsigned a.h) ++ drop (rectangle_numbers a.t) zeros = let a = c.args in
     ap (λ (z : Answer × List ℕ). z.1) (called ∙ accepted a.t a.sb128 (unsigned a.w) (unsigned a.h) zeros roomy (has)) in
     let a = c.args in
     rw (has, ← lines_of a.t a.sb128 (unsigned a.w) (unsigned a.h) _ _ (written)) (within (omega (arith, tiles_le a.t a.sb128 (unsigned a.w) (unsigned a.h) (has))) (also c.put_line-first.ensures c.put_tiles.ensures))

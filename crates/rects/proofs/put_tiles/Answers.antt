@@ -9,19 +9,17 @@ use Rattle.rectangles.specs.Rectangles.{each}
 use Rattle.rectangles.proofs.Each.{each_more}
 use Rattle.rects.proofs.put_tiles.Goals as goal
 
--- there are numbers for a tile more
-room : (l : goal.At-loop-k invariant-loop decreases-loop) → l.loop-k.k < l.args.n → 4 * l.loop-k.k + 4 ≤ length l.args.xs.now
-room l h = omega (arith, l.requires)
-
 pub loop-k-init : goal.loop-k-init
 unfolding each
 loop-k-init c = (search rules, none _ _)
 
 pub overflow_mul-k : goal.overflow_mul-k
-overflow_mul-k c = omega (arith, room c c.loop-k-test.true, c.well_formed)
+overflow_mul-k c =
+    let room : 4 * c.loop-k.k + 4 ≤ length c.args.xs.now = omega (arith, c.requires) in
+    omega (arith, c.well_formed)
 
 pub put_tile-next-requires : goal.put_tile-next-requires
-put_tile-next-requires c = room c c.loop-k-test.true
+put_tile-next-requires c = omega (arith, c.requires)
 
 pub loop-k-preserved : goal.loop-k-preserved
 loop-k-preserved c =

@@ -10,5 +10,5 @@ pub returns : goal.returns
 unfolding header_text grain_text lines word
 returns c =
     let hdr = c.args.hdr in
-    let numbers : c.put_seq_hdr.new.1.0 ≡ flat_seq_hdr hdr = c.put_seq_hdr.ensures ∙ append-nil (flat_seq_hdr hdr) in
+    let numbers : c.put_seq_hdr.new.out ≡ flat_seq_hdr hdr = c.put_seq_hdr.ensures ∙ append-nil (flat_seq_hdr hdr) in
     rw (← numbers) (also c.put_fields-first.ensures (also c.put_layout-second.ensures c.put_filled.ensures))
