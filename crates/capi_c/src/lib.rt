@@ -2,10 +2,10 @@
 #![tactic(auto)]
 
 ghost use Rattle.std.specs.Prelude.{[], ◌∷◌, ◌++◌, ◌≡◌, ◌≤◌, pos, replicate, drop};
-ghost use Rattle.flat.specs.Layout.{buffers, layout_in};
+ghost use Rattle.flat.specs.Layout.{buffers};
 ghost use Rattle.lent.specs.Lent.{place_of};
 ghost use Rattle.tile_layout.specs.Limits.{args_of};
-ghost use Rattle.seq_hdr.specs.HeaderLayout.{HeaderLayout};
+ghost use Rattle.capi.specs.Promises.{HeaderLeft};
 ghost use Rattle.capi.specs.Calls.{lent_seg_info, lent_header, lent_write};
 
 #[unsafe(no_mangle)]
@@ -71,7 +71,7 @@ pub extern "C" fn mubanlig_parse_seq_hdr(
     ensures col_start_sb_after { 1 ≤ result → result ≤ 3 → col_start_sb.new ≡ replicate 65 0 ++ drop 65 col_start_sb.old }
     ensures row_start_sb_after { 1 ≤ result → result ≤ 3 → row_start_sb.new ≡ replicate 65 0 ++ drop 65 row_start_sb.old }
     ensures fact { let after = buffers info.new col_start_sb.new row_start_sb.new in
-        ((result ≡ 5 → ⊥) → HeaderLayout s.now (place_of position.old error.old) result (layout_in after)) }
+        ((result ≡ 5 → ⊥) → HeaderLeft s.now (place_of position.old error.old) result after) }
 {
     capi::mubanlig_parse_seq_hdr(
         s,

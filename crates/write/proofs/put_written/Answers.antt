@@ -12,7 +12,7 @@ returns-then-is_refusal c =
 
 pub put_bits-requires : goal.put_bits-requires
 put_bits-requires c =
-    few _ _ _ (c.write_request-r.result, c.write_request-r.new.1.0) c.write_request-r.ensures (sym c.is_refusal.ensures ∙ c.if-is_refusal.false)
+    few _ _ _ (c.write_request-r.result, c.write_request-r.new.buffer) c.write_request-r.ensures (sym c.is_refusal.ensures ∙ c.if-is_refusal.false)
 
 pub returns : goal.returns
 unfolding written_text
