@@ -18,7 +18,7 @@ unfoldable pub lent_seg_info : List ℕ → ℕ → ℕ → List ℤ → List �
 lent_seg_info s position error deltas masks ext =
     pick (leb 16 (length deltas) && leb 3 (length masks))
     (then (parse_seg_info s (place_of position error) (seg_info_of deltas masks) (is_set ext)) λ r.
-    (answered Accepted r.next error, over_front 16 r.seg.delta_q deltas, over_front 3 (flat_masks r.seg) masks))
+    (answered Accepted r.next error, over_front 16 r.value.delta_q deltas, over_front 3 (flat_masks r.value) masks))
     (too_short position error, deltas, masks)
 
 -- parse_seq_hdr into 146 lent numbers and the buffers of a layout; a refused header writes the zero record

@@ -57,8 +57,8 @@ pub extern "C" fn mubanlig_parse_seg_info(
     let seg = seg_info_of(&*delta_q, &*masks);
     let r = parse_seg_info(s, p, seg, is_set(ext));
     put_place(r.next, &mut *position, &mut *error);
-    put_delta_q(r.seg, &mut *delta_q);
-    put_masks(r.seg, &mut *masks);
+    put_delta_q(r.value, &mut *delta_q);
+    put_masks(r.value, &mut *masks);
     0
 }
 
@@ -73,7 +73,7 @@ pub extern "C" fn mubanlig_parse_seq_hdr(
     col_start_sb: &mut [u16],
     row_start_sb: &mut [u16],
 ) -> u32
-    ensures after_after { let before = buffers info.old col_start_sb.old row_start_sb.old in
+    ensures outcome { let before = buffers info.old col_start_sb.old row_start_sb.old in
         let after = buffers info.new col_start_sb.new row_start_sb.new in
         ((result ∷ position.new ∷ error.new ∷ []), hdr.new, after)
         ≡ lent_header s.now position.old error.old strict hdr.old before }
@@ -85,7 +85,7 @@ pub extern "C" fn mubanlig_parse_seq_hdr(
     ensures info_after { 1 ≤ result → result ≤ 3 → info.new ≡ replicate 9 0 ++ drop 9 info.old }
     ensures col_start_sb_after { 1 ≤ result → result ≤ 3 → col_start_sb.new ≡ replicate 65 0 ++ drop 65 col_start_sb.old }
     ensures row_start_sb_after { 1 ≤ result → result ≤ 3 → row_start_sb.new ≡ replicate 65 0 ++ drop 65 row_start_sb.old }
-    ensures fact { let after = buffers info.new col_start_sb.new row_start_sb.new in
+    ensures header_left { let after = buffers info.new col_start_sb.new row_start_sb.new in
         ((result ≡ 5 → ⊥) → HeaderLeft s.now (place_of position.old error.old) result after) }
 {
     if hdr.len() < 146 {
@@ -104,9 +104,8 @@ pub extern "C" fn mubanlig_parse_seq_hdr(
         &mut *col_start_sb,
         &mut *row_start_sb,
     );
-    let answer = r.answer;
     put_place(r.next, &mut *position, &mut *error);
-    number(answer)
+    number(r.answer)
 }
 
 #[unsafe(no_mangle)]
@@ -135,7 +134,6 @@ pub extern "C" fn mubanlig_write_tile_info(
     }
     let t = tile_info_of(info, col_start_sb, row_start_sb);
     let r = write_tile_info(sbmul, sb128, seq_sb128, w, h, level, tier, t, &mut *out);
-    let answer = r.answer;
     *bits = r.bits;
-    number(answer)
+    number(r.answer)
 }

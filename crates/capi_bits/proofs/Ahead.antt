@@ -9,7 +9,7 @@ use Rattle.getbits.proofs.Fields.{bits_one}
 use Rattle.getbits.proofs.Places.{pos_at}
 use Rattle.getbits.specs.Bits.{bit_at, bits_at, bit_count, position, place_at, read_bits, look_at, get_bit, get_bits}
 use Rattle.getbits.specs.Chain.{pick, then}
-use Rattle.getbits.specs.declared.Number.{Number}
+use Rattle.getbits.specs.declared.Read.{Read}
 use Rattle.getbits.specs.declared.Place.{Place}
 use Rattle.lent.specs.Lent.{is_set, place_of, error_after}
 use Rattle.capi_bits.specs.Numbers.{lent_number}
@@ -57,10 +57,10 @@ module _ (s : List ℕ) (k error : ℕ) where
     abbrev m : ℕ
     m = 2 ^ l - max
 
-    abbrev most : Number
+    abbrev most : Read ℕ
     most = read_bits s p (l - 1)
 
-    abbrev last : Number
+    abbrev last : Read ℕ
     last = get_bit s most.next
 
     here : position s p ≡ k
@@ -94,12 +94,12 @@ module _ (s : List ℕ) (k error : ℕ) where
       pub uniform_short : {j : ℕ} → w / 2 < m → j ≡ (k + (l - 1)) % 2 ^ 64 → ((w / 2) ∷ j ∷ error ∷ []) ≡ lent_number (get_uniform s p max) error
       uniform_short h f =
           rw (behind ∙ taken _ _ _ (lt-ltb most.value m (omega (arith, half))))
-          (read_on (l - 1) (omega (arith, length_known.1)) (half ∙ ap (λ (x : Number). x.value) (read_there s p (l - 1) (omega (arith, here, length_known.1))) ∙ rw here) f)
+          (read_on (l - 1) (omega (arith, length_known.1)) (half ∙ ap (λ (x : Read ℕ). x.value) (read_there s p (l - 1) (omega (arith, here, length_known.1))) ∙ rw here) f)
 
       pub uniform_long : {j : ℕ} → m ≤ w / 2 → j ≡ (k + l) % 2 ^ 64 → ((w - m) ∷ j ∷ error ∷ []) ≡ lent_number (get_uniform s p max) error
       uniform_long h f =
           let next : last.next ≡ place_at (k + l) (is_set error) =
-          sym more.1 ∙ ap (λ (x : Number). x.next) (read_there s p l (omega (arith, here, length_known.1))) ∙ rw here in
+          sym more.1 ∙ ap (λ (x : Read ℕ). x.next) (read_there s p l (omega (arith, here, length_known.1))) ∙ rw here in
           let value : 2 * most.value - m + last.value ≡ w - m = omega (arith, whole, half) in
           rw (behind ∙ left _ _ _ (le-ltb most.value m (omega (arith, half))) ∙ through _ _ refl, next, value)
           (handed error (w - m) (k + l) f)

@@ -11,9 +11,7 @@ use codes::{
     get_bits_subexp, get_bits_subexp_u, get_golomb, get_ref_uniform, get_uleb128, get_uniform,
     get_vlc, uniform_forms,
 };
-use getbits::{
-    Number, Place, Signed, byte_pos, bytealign, get_bits, get_sbits, look_ahead, remaining_bytes,
-};
+use getbits::{Place, Read, byte_pos, bytealign, get_bits, get_sbits, look_ahead, remaining_bytes};
 use lent::{place_of, position_of, put_place};
 
 // The number of the interface.
@@ -27,7 +25,7 @@ pub extern "C" fn mubanlig_bits_interface_3() -> u32
 }
 
 // A reading is handed back: the place is stored, and the number is the answer.
-fn hand_back(read: Number, position: &mut usize, error: &mut u8) -> u32
+fn hand_back(read: Read<u32>, position: &mut usize, error: &mut u8) -> u32
     ensures { (result ∷ position.new ∷ error.new ∷ []) ≡ lent_number read error.old }
 {
     put_place(read.next, &mut *position, &mut *error);
@@ -35,7 +33,7 @@ fn hand_back(read: Number, position: &mut usize, error: &mut u8) -> u32
 }
 
 // The same of a signed number.
-fn hand_back_signed(r: Signed, position: &mut usize, error: &mut u8) -> i32
+fn hand_back_signed(r: Read<i32>, position: &mut usize, error: &mut u8) -> i32
     ensures { (result ∷ pos position.new ∷ pos error.new ∷ []) ≡ lent_signed r error.old }
 {
     put_place(r.next, &mut *position, &mut *error);

@@ -58,7 +58,7 @@ pub extern "C" fn mubanlig_parse_seq_hdr(
     col_start_sb: &mut [u16],
     row_start_sb: &mut [u16],
 ) -> u32
-    ensures after_after { let before = buffers info.old col_start_sb.old row_start_sb.old in
+    ensures outcome { let before = buffers info.old col_start_sb.old row_start_sb.old in
         let after = buffers info.new col_start_sb.new row_start_sb.new in
         ((result ∷ position.new ∷ error.new ∷ []), hdr.new, after)
         ≡ lent_header s.now position.old error.old strict hdr.old before }
@@ -70,7 +70,7 @@ pub extern "C" fn mubanlig_parse_seq_hdr(
     ensures info_after { 1 ≤ result → result ≤ 3 → info.new ≡ replicate 9 0 ++ drop 9 info.old }
     ensures col_start_sb_after { 1 ≤ result → result ≤ 3 → col_start_sb.new ≡ replicate 65 0 ++ drop 65 col_start_sb.old }
     ensures row_start_sb_after { 1 ≤ result → result ≤ 3 → row_start_sb.new ≡ replicate 65 0 ++ drop 65 row_start_sb.old }
-    ensures fact { let after = buffers info.new col_start_sb.new row_start_sb.new in
+    ensures header_left { let after = buffers info.new col_start_sb.new row_start_sb.new in
         ((result ≡ 5 → ⊥) → HeaderLeft s.now (place_of position.old error.old) result after) }
 {
     capi::mubanlig_parse_seq_hdr(

@@ -48,7 +48,7 @@ pub extern "C" fn mubanlig_parse_tile_info_frmhdr(
     seq_col_start_sb: &[u16],
     seq_row_start_sb: &[u16],
 ) -> u32
-    ensures after_after { let before = buffers info.old col_start_sb.old row_start_sb.old in
+    ensures outcome { let before = buffers info.old col_start_sb.old row_start_sb.old in
         let after = buffers info.new col_start_sb.new row_start_sb.new in
         let seq-before = buffers seq_info.now seq_col_start_sb.now seq_row_start_sb.now in
         let hdr = frame_given frame_type width height sb128.old before in
@@ -59,7 +59,7 @@ pub extern "C" fn mubanlig_parse_tile_info_frmhdr(
     ensures info_unchanged { (result ≡ 0 → ⊥) → info.new ≡ info.old }
     ensures col_start_sb_unchanged { (result ≡ 0 → ⊥) → col_start_sb.new ≡ col_start_sb.old }
     ensures row_start_sb_unchanged { (result ≡ 0 → ⊥) → row_start_sb.new ≡ row_start_sb.old }
-    ensures fact { let before = buffers info.old col_start_sb.old row_start_sb.old in
+    ensures frame_layout { let before = buffers info.old col_start_sb.old row_start_sb.old in
         let after = buffers info.new col_start_sb.new row_start_sb.new in
         let seq-before = buffers seq_info.now seq_col_start_sb.now seq_row_start_sb.now in
         let hdr = frame_given frame_type width height sb128.old before in
@@ -100,8 +100,7 @@ pub extern "C" fn mubanlig_parse_tile_info_frmhdr(
         seq_col_start_sb,
         seq_row_start_sb,
     );
-    let answer = r.answer;
     put_place(r.next, &mut *position, &mut *error);
     *sb128 = r.sb128;
-    number(answer)
+    number(r.answer)
 }

@@ -22,9 +22,9 @@ pub extern "C" fn mubanlig_parse_film_grain_data(
 ) -> u32
     ensures fgd_after { ((result ∷ position.new ∷ error.new ∷ []), fgd.new)
         ≡ lent_film_grain s.now position.old error.old layout fgd.old }
-    ensures fgd_unchanged { result ≡ 4 → fgd.new ≡ fgd.old }
-    ensures fgd_unchanged_2 { result ≡ 5 → fgd.new ≡ fgd.old }
-    ensures fgd_after_2 { result ≡ 7 → fgd.new ≡ replicate 186 (pos 0) ++ drop 186 fgd.old }
+    ensures fgd_unchanged_at_4 { result ≡ 4 → fgd.new ≡ fgd.old }
+    ensures fgd_unchanged_at_5 { result ≡ 5 → fgd.new ≡ fgd.old }
+    ensures zeros_at_7 { result ≡ 7 → fgd.new ≡ replicate 186 (pos 0) ++ drop 186 fgd.old }
     ensures lists_left { result ≡ 0 → ListsLeft fgd.new }
 {
     capi_grain::mubanlig_parse_film_grain_data(s, &mut *position, &mut *error, layout, &mut *fgd)

@@ -34,14 +34,14 @@ pub extern "C" fn mubanlig_parse_tile_info(
     level: u8,
     tier: u8,
 ) -> u32
-    ensures after_after { let before = buffers info.old col_start_sb.old row_start_sb.old in
+    ensures outcome { let before = buffers info.old col_start_sb.old row_start_sb.old in
         let after = buffers info.new col_start_sb.new row_start_sb.new in
         ((result ∷ position.new ∷ error.new ∷ []), after)
         ≡ lent_tile_info s.now position.old error.old before (args_of sbmul sb128 seq_sb128 w h level tier) }
     ensures info_unchanged { (result ≡ 0 → ⊥) → info.new ≡ info.old }
     ensures col_start_sb_unchanged { (result ≡ 0 → ⊥) → col_start_sb.new ≡ col_start_sb.old }
     ensures row_start_sb_unchanged { (result ≡ 0 → ⊥) → row_start_sb.new ≡ row_start_sb.old }
-    ensures fact { let before = buffers info.old col_start_sb.old row_start_sb.old in
+    ensures demand3 { let before = buffers info.old col_start_sb.old row_start_sb.old in
         let after = buffers info.new col_start_sb.new row_start_sb.new in
         let args = args_of sbmul sb128 seq_sb128 w h level tier in
         (has_room before ≡ true → in_domain args ≡ true

@@ -40,21 +40,21 @@ pub extern "C" fn mubanlig_parse_tile_info_within(
     max_cols: u8,
     max_rows: u8,
 ) -> u32
-    ensures after_after { let before = buffers info.old col_start_sb.old row_start_sb.old in
+    ensures outcome { let before = buffers info.old col_start_sb.old row_start_sb.old in
         let after = buffers info.new col_start_sb.new row_start_sb.new in
         ((result ∷ position.new ∷ error.new ∷ []), after)
         ≡ lent_tile_info_within s.now position.old error.old before (args_of sbmul sb128 seq_sb128 w h level tier) (limit_given max_cols max_rows) }
     ensures info_unchanged { (result ≡ 0 → ⊥) → info.new ≡ info.old }
     ensures col_start_sb_unchanged { (result ≡ 0 → ⊥) → col_start_sb.new ≡ col_start_sb.old }
     ensures row_start_sb_unchanged { (result ≡ 0 → ⊥) → row_start_sb.new ≡ row_start_sb.old }
-    ensures fact { let before = buffers info.old col_start_sb.old row_start_sb.old in
+    ensures limited { let before = buffers info.old col_start_sb.old row_start_sb.old in
         let after = buffers info.new col_start_sb.new row_start_sb.new in
         let on-wall = parse_tile_info s.now (place_of position.old error.old) (layout_in before) (args_of sbmul sb128 seq_sb128 w h level tier) in
         (has_room before ≡ true
         → Limited (limit_given max_cols max_rows) on-wall (tiles_left result after (place_of position.new error.new))) }
-    ensures fact_2 { let after = buffers info.new col_start_sb.new row_start_sb.new in
+    ensures accepted_layout { let after = buffers info.new col_start_sb.new row_start_sb.new in
         (result ≡ 0 → AcceptedLayout s.now (place_of position.old error.old) (args_of sbmul sb128 seq_sb128 w h level tier) (layout_in after)) }
-    ensures fact_3 { let before = buffers info.old col_start_sb.old row_start_sb.old in
+    ensures on_wall { let before = buffers info.old col_start_sb.old row_start_sb.old in
         let after = buffers info.new col_start_sb.new row_start_sb.new in
         (limit_given max_cols max_rows ≡ wall → ((result ∷ position.new ∷ error.new ∷ []), after)
         ≡ lent_tile_info s.now position.old error.old before (args_of sbmul sb128 seq_sb128 w h level tier)) }
@@ -103,7 +103,7 @@ pub extern "C" fn mubanlig_parse_tile_info_frmhdr_within(
     max_cols: u8,
     max_rows: u8,
 ) -> u32
-    ensures after_after { let before = buffers info.old col_start_sb.old row_start_sb.old in
+    ensures outcome { let before = buffers info.old col_start_sb.old row_start_sb.old in
         let after = buffers info.new col_start_sb.new row_start_sb.new in
         let seq-before = buffers seq_info.now seq_col_start_sb.now seq_row_start_sb.now in
         let hdr = frame_given frame_type width height sb128.old before in
@@ -114,7 +114,7 @@ pub extern "C" fn mubanlig_parse_tile_info_frmhdr_within(
     ensures info_unchanged { (result ≡ 0 → ⊥) → info.new ≡ info.old }
     ensures col_start_sb_unchanged { (result ≡ 0 → ⊥) → col_start_sb.new ≡ col_start_sb.old }
     ensures row_start_sb_unchanged { (result ≡ 0 → ⊥) → row_start_sb.new ≡ row_start_sb.old }
-    ensures fact { let before = buffers info.old col_start_sb.old row_start_sb.old in
+    ensures limited { let before = buffers info.old col_start_sb.old row_start_sb.old in
         let after = buffers info.new col_start_sb.new row_start_sb.new in
         let seq-before = buffers seq_info.now seq_col_start_sb.now seq_row_start_sb.now in
         let hdr = frame_given frame_type width height sb128.old before in
@@ -122,13 +122,13 @@ pub extern "C" fn mubanlig_parse_tile_info_frmhdr_within(
         let on-wall = parse_tile_info_frmhdr s.now (place_of position.old error.old) hdr seq in
         (has_room before && has_room seq-before ≡ true → is_known frame_type present ≡ true
         → Limited (limit_given max_cols max_rows) (frame_tiles on-wall) (tiles_left result after (place_of position.new error.new))) }
-    ensures fact_2 { let before = buffers info.old col_start_sb.old row_start_sb.old in
+    ensures fresh_accepted { let before = buffers info.old col_start_sb.old row_start_sb.old in
         let after = buffers info.new col_start_sb.new row_start_sb.new in
         let seq-before = buffers seq_info.now seq_col_start_sb.now seq_row_start_sb.now in
         let hdr = frame_given frame_type width height sb128.old before in
         let seq = seq_given seq_sb128 max_width max_height level tier present seq-before in
         (result ≡ 0 → FreshAccepted s.now (place_of position.old error.old) hdr seq (layout_in after)) }
-    ensures fact_3 { let before = buffers info.old col_start_sb.old row_start_sb.old in
+    ensures on_wall { let before = buffers info.old col_start_sb.old row_start_sb.old in
         let after = buffers info.new col_start_sb.new row_start_sb.new in
         let seq-before = buffers seq_info.now seq_col_start_sb.now seq_row_start_sb.now in
         let hdr = frame_given frame_type width height sb128.old before in

@@ -14,7 +14,7 @@ use lib.IntN.{ℤ, nat_abs}
 use lib.Pow.{pow_mono}
 use Rattle.getbits.specs.Bits.{bit_count, position, read_bits, get_bit, refused, settled}
 use Rattle.getbits.specs.Chain.{pick, then}
-use Rattle.getbits.specs.declared.Number.{Number}
+use Rattle.getbits.specs.declared.Read.{Read}
 use Rattle.getbits.specs.declared.Place.{Place}
 use Rattle.getbits.proofs.Chain.{both, picked, through, left}
 use Rattle.getbits.proofs.Places.{lt_or_le, pos_in}
@@ -53,11 +53,11 @@ uniform_more s p max l m el em some low =
 pub uniform_lt : (s : List ℕ) (p : Place) (max : ℕ) → 1 ≤ max → (get_uniform s p max).value < max
 unfolding get_uniform then
 uniform_lt s p max h =
-    let P : Number → Type 0 = λ r. r.value < max in
+    let P : Read ℕ → Type 0 = λ r. r.value < max in
     let l = bit_length max in
-    let v : Number = read_bits s p (l - 1) in
-    let b : Number = get_bit s v.next in
-    let long : Number = record { value = 2 * v.value - (2 ^ l - max) + b.value; next = b.next } in
+    let v : Read ℕ = read_bits s p (l - 1) in
+    let b : Read ℕ = get_bit s v.next in
+    let long : Read ℕ = record { value = 2 * v.value - (2 ^ l - max) + b.value; next = b.next } in
     picked P (leb max 1) (record { value = 0; next = settled s p }) (pick (leb (2 ^ 31) max) (refused s p) (pick (ltb v.value (2 ^ l - max)) v long))
     (λ _. h)
     (λ one.
@@ -79,7 +79,7 @@ subexp_lt zero s p n k i v h = omega arith
 subexp_lt (suc t) s p n k i v h =
     let b = k + (i - 1) in
     let g = get_bit s p in
-    let P : Number → Type 0 = λ r. r.value < n in
+    let P : Read ℕ → Type 0 = λ r. r.value < n in
     let here = plus v (read_bits s g.next b) in
     let on = subexp_from t s g.next n k (i + 1) (v + 2 ^ b) in
     picked P (leb n (v + 3 * 2 ^ b)) (plus v (get_uniform s p (n - v))) (pick (eqb g.value 0) here on)
@@ -97,7 +97,7 @@ subexp_u_lt s p ref n k h =
     let r = subexp_from 33 s p n (nat_abs k) 0 0 in
     let low = inv_recenter ref r.value in
     let high = n - 1 - inv_recenter (n - 1 - ref) r.value in
-    picked (λ (x : Number). x.value < n) (subexp_args ref n k) (record { value = pick (leb (2 * ref) n) low high; next = r.next }) (refused s p)
+    picked (λ (x : Read ℕ). x.value < n) (subexp_args ref n k) (record { value = pick (leb (2 * ref) n) low high; next = r.next }) (refused s p)
     (λ a.
     picked (λ (x : ℕ). x < n) (leb (2 * ref) n) low high
     (λ t. recenter_lt ref r.value n (leb-true (2 * ref) n t) (args_known ref n k a).2 (subexp_lt 33 s p n (nat_abs k) 0 0 h))

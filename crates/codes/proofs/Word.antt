@@ -14,7 +14,7 @@ use lib.Pow.{pow-add, shl_lt, low}
 use Rattle.codes.specs.Codes.{run_of}
 use Rattle.getbits.specs.Bits.{bit_at, bits_at, bit_count, position, place_at, read_bits, get_bit}
 use Rattle.getbits.specs.Chain.{pick, then}
-use Rattle.getbits.specs.declared.Number.{Number}
+use Rattle.getbits.specs.declared.Read.{Read}
 use Rattle.getbits.specs.declared.Place.{Place}
 use Rattle.getbits.proofs.Callers.{read_there, read_pos}
 use Rattle.getbits.proofs.Fields.{bits_lt, bits_add, bits_one}
@@ -143,7 +143,7 @@ module _ (bit : ℕ) (h : bit < 2) (s : List ℕ) (p : Place) (word : ℕ) (w : 
   abbrev counted : ℕ → ℕ
   counted k = count bit (from s (position s p) word w k)
 
-  abbrev told : ℕ → ℕ → Number
+  abbrev told : ℕ → ℕ → Read ℕ
   told m k = record { value = min (counted k) m; next = (read_bits s p (k + min (counted k + 1) m)).next }
 
   one_more : (m k : ℕ) → k + suc m ≤ 32 → (t : Bool) → eqb (bit_at s (position s p + k)) bit ≡ t → run_of bit m s (read_bits s p (k + 1)).next ≡ told m (k + 1)

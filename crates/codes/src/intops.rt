@@ -1,12 +1,6 @@
-// Integer helpers. They are inner: each asks of its caller what the callers here know.
-ghost use Rattle.std.specs.Prelude.{◌≡◌, ◌^◌, ◌<◌, min};
+// An integer helper. It is inner: it asks of its caller what the callers here know.
+ghost use Rattle.std.specs.Prelude.{◌≡◌, ◌^◌, ◌<◌};
 ghost use Rattle.codes.specs.Codes.{inv_recenter};
-
-pub fn umin(a: u32, b: u32) -> u32
-    ensures { result ≡ min a b }
-{
-    if a < b { a } else { b }
-}
 
 pub fn inv_recenter(r: u32, v: u32) -> u32
     requires { (r < 2 ^ 31) × (v < 2 ^ 31) }

@@ -7,13 +7,11 @@ ghost use Rattle.getbits.specs.Bits.{bit_count, position, read_bits, look_at};
 ghost use Rattle.getbits.specs.declared.Place.{Place};
 ghost use Rattle.getbits.specs.Chain.{pick};
 
-use getbits::{
-    Number, Place, Signed, get_bit, look, look_ahead, power, read_bits, read_wide, refuse,
-};
+use getbits::{Place, Read, get_bit, look, look_ahead, power, read_bits, read_wide, refuse};
 
 mod intops;
 
-use intops::{inv_recenter, umin};
+use intops::inv_recenter;
 
 // The bits of w in which a run of `bit` is a run of zeros.
 fn as_zeros(w: u32, bit: u32) -> u32
@@ -24,21 +22,23 @@ fn as_zeros(w: u32, bit: u32) -> u32
 
 // How many bits in a row are `bit`, at most `most`; the first that is not is used too. They are counted in one word, which has 0 for each past the
 // end, as get_bit does.
-fn run(s: &[u8], p: Place, bit: u32, most: u32) -> Number
+fn run(s: &[u8], p: Place, bit: u32, most: u32) -> Read<u32>
     requires { (bit < 2) × (most ≤ 32) }
     ensures { result ≡ run_of bit most s.now p }
 {
     if most == 0 {
-        return Number { value: 0, next: p };
+        return Read { value: 0, next: p };
     }
     let w = look(s, p, 32);
-    let n = umin(u32::leading_zeros(as_zeros(w, bit)), most);
-    let r = read_wide(s, p, umin(n + 1, most));
-    let next = r.next;
-    Number { value: n, next }
+    let n = as_zeros(w, bit).leading_zeros().min(most);
+    let r = read_wide(s, p, (n + 1).min(most));
+    Read {
+        value: n,
+        next: r.next,
+    }
 }
 
-pub fn get_vlc(s: &[u8], p: Place) -> Number
+pub fn get_vlc(s: &[u8], p: Place) -> Read<u32>
     ensures { result ≡ get_vlc s.now p }
 {
     let z = run(s, p, 0, 32);
@@ -46,13 +46,12 @@ pub fn get_vlc(s: &[u8], p: Place) -> Number
     let q = z.next;
     if n_bits < 32 {
         let r = read_bits(s, q, n_bits);
-        let next = r.next;
-        return Number {
+        return Read {
             value: power(n_bits) - 1 + r.value,
-            next,
+            next: r.next,
         };
     }
-    Number {
+    Read {
         value: 4_294_967_295,
         next: q,
     }
@@ -68,7 +67,7 @@ pub struct Forms {
 pub fn uniform_forms(max: u32) -> Forms
     ensures { (result.bits ≡ bit_length max) × (result.short ≡ 2 ^ bit_length max - max) }
 {
-    let bits = 32 - u32::leading_zeros(max);
+    let bits = 32 - max.leading_zeros();
     Forms {
         bits,
         short: ((1u64 << bits) - max as u64) as u32,
@@ -76,7 +75,7 @@ pub fn uniform_forms(max: u32) -> Forms
 }
 
 // get_uniform bit by bit.
-fn uniform_by_bits(s: &[u8], p: Place, max: u32) -> Number
+fn uniform_by_bits(s: &[u8], p: Place, max: u32) -> Read<u32>
     ensures { result ≡ get_uniform s.now p max }
 {
     if max <= 1 {
@@ -95,10 +94,9 @@ fn uniform_by_bits(s: &[u8], p: Place, max: u32) -> Number
         return r;
     }
     let b = get_bit(s, q);
-    let next = b.next;
-    Number {
+    Read {
         value: 2 * v - m + b.value,
-        next,
+        next: b.next,
     }
 }
 
@@ -120,7 +118,7 @@ fn uniform_of(word: u32, max: u32) -> Uniform
     if w / 2 < f.short {
         return Uniform {
             value: w / 2,
-            bits: less_one(f.bits),
+            bits: f.bits.saturating_sub(1),
         };
     }
     Uniform {
@@ -143,14 +141,14 @@ fn eight_left(s: &[u8], p: Place) -> bool
 }
 
 // Where eight bytes are left, the number comes out of one word; where this is inlined, as in the loop over sizes, the place stays out of memory.
-pub fn get_uniform(s: &[u8], p: Place, max: u32) -> Number
+pub fn get_uniform(s: &[u8], p: Place, max: u32) -> Read<u32>
     ensures { result ≡ get_uniform s.now p max }
 {
     if (1 <= max) & (max < 0x8000_0000) {
         if eight_left(s, p) {
             let u = uniform_of(look_ahead(s, p, 32), max);
             let stop = p.used + u.bits;
-            return Number {
+            return Read {
                 value: u.value,
                 next: Place {
                     byte: p.byte + (stop / 8) as usize,
@@ -163,7 +161,7 @@ pub fn get_uniform(s: &[u8], p: Place, max: u32) -> Number
     uniform_by_bits(s, p, max)
 }
 
-pub fn get_ref_uniform(s: &[u8], p: Place, max: u32, def: u32) -> Number
+pub fn get_ref_uniform(s: &[u8], p: Place, max: u32, def: u32) -> Read<u32>
     ensures { result ≡ get_ref_uniform s.now p max def }
 {
     if max <= 1 {
@@ -172,70 +170,60 @@ pub fn get_ref_uniform(s: &[u8], p: Place, max: u32, def: u32) -> Number
     if 0x8000_0000 <= max {
         return refuse(s, p);
     }
-    let d = umin(def, max - 1);
+    let d = def.min(max - 1);
     let b = get_bit(s, p);
     let q = b.next;
     if b.value == 0 {
-        return Number { value: d, next: q };
+        return Read { value: d, next: q };
     }
     let r = get_uniform(s, q, max - 1);
-    let next = r.next;
     if r.value < d {
         return r;
     }
-    Number {
+    Read {
         value: r.value + 1,
-        next,
+        next: r.next,
     }
 }
 
-// A number of up to 56 bits, and the place after it.
-#[derive(Clone, Copy)]
-struct Wide {
-    value: u64,
-    next: Place,
-}
-
 // At most eight bytes of seven bits each, the lowest first.
-fn groups(s: &[u8], p: Place) -> Wide
+fn groups(s: &[u8], p: Place) -> Read<u64>
     ensures { (result.value ≡ (uleb_from 8 s.now p).value) × (result.next ≡ (uleb_from 8 s.now p).next) }
 {
     let mut q = p;
     let mut val: u64 = 0;
     let mut weight: u64 = 1;
-    let mut left: u32 = 8;
-    while 0 < left {
+    for _ in 0..8u32 {
         let b = read_bits(s, q, 8);
         q = b.next;
         let v = b.value as u64;
         if v < 128 {
-            return Wide {
+            return Read {
                 value: val + v * weight,
                 next: q,
             };
         }
-        val = val + (v - 128) * weight;
-        weight = weight * 128;
-        left = left - 1;
+        val += (v - 128) * weight;
+        weight *= 128;
     }
-    Wide {
+    Read {
         value: val,
         next: q,
     }
 }
 
-pub fn get_uleb128(s: &[u8], p: Place) -> Number
+pub fn get_uleb128(s: &[u8], p: Place) -> Read<u32>
     ensures { result ≡ get_uleb128 s.now p }
 {
     let r = groups(s, p);
     let next = r.next;
     if r.value < 0x1_0000_0000 {
-        return Number {
+        return Read {
             value: r.value as u32,
             next,
         };
     }
-    Number {
+    Read {
         value: 0,
         next: Place {
             byte: next.byte,
@@ -245,7 +233,7 @@ pub fn get_uleb128(s: &[u8], p: Place) -> Number
     }
 }
 
-pub fn get_golomb(s: &[u8], p: Place, k: u32) -> Number
+pub fn get_golomb(s: &[u8], p: Place, k: u32) -> Read<u32>
     ensures { result ≡ get_golomb s.now p k }
 {
     if 32 <= k {
@@ -255,16 +243,15 @@ pub fn get_golomb(s: &[u8], p: Place, k: u32) -> Number
     let bits = c.value;
     let q = c.next;
     if bits + k == 32 {
-        return Number {
+        return Read {
             value: 4_294_967_295,
             next: q,
         };
     }
     let r = read_bits(s, q, k);
-    let next = r.next;
-    Number {
+    Read {
         value: bits * power(k) + r.value,
-        next,
+        next: r.next,
     }
 }
 
@@ -277,7 +264,7 @@ fn step_bits(k: u32, i: u32) -> u32
 }
 
 // A number below n, in steps.
-fn subexp(s: &[u8], p: Place, n: u32, k: u32) -> Number
+fn subexp(s: &[u8], p: Place, n: u32, k: u32) -> Read<u32>
     requires { (k < 32) × (1 ≤ n) × (n < 2 ^ 31) }
     ensures { result ≡ subexp_from 33 s.now p n k 0 0 }
 {
@@ -289,24 +276,22 @@ fn subexp(s: &[u8], p: Place, n: u32, k: u32) -> Number
         let a = power(b);
         if n as u64 <= v as u64 + 3 * (a as u64) {
             let r = get_uniform(s, q, n - v);
-            let next = r.next;
-            return Number {
+            return Read {
                 value: v + r.value,
-                next,
+                next: r.next,
             };
         }
         let g = get_bit(s, q);
         q = g.next;
         if g.value == 0 {
             let r = read_bits(s, q, b);
-            let next = r.next;
-            return Number {
+            return Read {
                 value: v + r.value,
-                next,
+                next: r.next,
             };
         }
-        v = v + a;
-        i = i + 1;
+        v += a;
+        i += 1;
     }
 }
 
@@ -316,30 +301,23 @@ fn subexp_args(ref_val: u32, n: u32, k: i32) -> bool
     ((0 <= k) & (k < 32)) & ((ref_val < n) & (n < 0x8000_0000))
 }
 
-pub fn get_bits_subexp_u(s: &[u8], p: Place, ref_val: u32, n: u32, k: i32) -> Number
+pub fn get_bits_subexp_u(s: &[u8], p: Place, ref_val: u32, n: u32, k: i32) -> Read<u32>
     ensures { result ≡ get_bits_subexp_u s.now p ref_val n k }
 {
     if subexp_args(ref_val, n, k) {
         let r = subexp(s, p, n, k as u32);
-        let next = r.next;
         if 2 * ref_val <= n {
-            return Number {
+            return Read {
                 value: inv_recenter(ref_val, r.value),
-                next,
+                next: r.next,
             };
         }
-        return Number {
+        return Read {
             value: n - 1 - inv_recenter(n - 1 - ref_val, r.value),
-            next,
+            next: r.next,
         };
     }
     refuse(s, p)
-}
-
-fn less_one(n: u32) -> u32
-    ensures { result ≡ n - 1 }
-{
-    if n == 0 { 0 } else { n - 1 }
 }
 
 // The reference moved up by off, so that it counts from 0.
@@ -363,42 +341,43 @@ fn subexp_range(n: u32, x: i64) -> bool
     ((1 <= n) & (n <= 0x4000_0000)) & ((0 <= x) & (x < 0x8000_0000))
 }
 
-pub fn get_bits_subexp(s: &[u8], p: Place, ref_val: i32, n: u32) -> Signed
+pub fn get_bits_subexp(s: &[u8], p: Place, ref_val: i32, n: u32) -> Read<i32>
     ensures { result ≡ get_bits_subexp s.now p ref_val n }
 {
-    let off = less_one(n);
+    let off = n.saturating_sub(1);
     let x = shifted(ref_val, off);
     if subexp_range(n, x) {
         let r = get_bits_subexp_u(s, p, x as u32, n + off, 3);
-        let next = r.next;
-        return Signed {
+        return Read {
             value: difference(r.value, off),
-            next,
+            next: r.next,
         };
     }
     let r = refuse(s, p);
-    let next = r.next;
-    Signed { value: 0, next }
+    Read {
+        value: 0,
+        next: r.next,
+    }
 }
 
 // get_vlc under a condition: else 0, and the place as it was.
-pub fn vlc_if(s: &[u8], p: Place, cond: bool) -> Number
+pub fn vlc_if(s: &[u8], p: Place, cond: bool) -> Read<u32>
     ensures { result ≡ vlc_if cond s.now p }
 {
     if cond {
         get_vlc(s, p)
     } else {
-        Number { value: 0, next: p }
+        Read { value: 0, next: p }
     }
 }
 
 // get_uniform under a condition: else 0, and the place as it was.
-pub fn uniform_if(s: &[u8], p: Place, max: u32, cond: bool) -> Number
+pub fn uniform_if(s: &[u8], p: Place, max: u32, cond: bool) -> Read<u32>
     ensures { result ≡ uniform_if cond s.now p max }
 {
     if cond {
         get_uniform(s, p, max)
     } else {
-        Number { value: 0, next: p }
+        Read { value: 0, next: p }
     }
 }

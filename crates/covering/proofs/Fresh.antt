@@ -50,12 +50,12 @@ frame_within_lem s p h q m f = picked FrameCovers (is_too_many m (frame_tiles (p
 
 -- the tiling of a header whose fields before it are hdr's
 tiling_covers : (hdr : SequenceHeader) (s : List ℕ) (p : Place)
-    → (grain : Bool) → is_refusal (tiling_of hdr s p).answer ≡ false → SequenceCovers (seq_layout (with_tiling hdr (tiling_of hdr s p).fields grain))
+    → (grain : Bool) → is_refusal (tiling_of hdr s p).answer ≡ false → SequenceCovers (seq_layout (with_tiling hdr (tiling_of hdr s p).value grain))
 unfolding read_tiling then flag_if tile_info_if
 tiling_covers hdr s p grain = by (get_flag s p).value refl
   where
     by : (present : Bool) → (get_flag s p).value ≡ present
-        → is_refusal (tiling_of hdr s p).answer ≡ false → SequenceCovers (seq_layout (with_tiling hdr (tiling_of hdr s p).fields grain))
+        → is_refusal (tiling_of hdr s p).answer ≡ false → SequenceCovers (seq_layout (with_tiling hdr (tiling_of hdr s p).value grain))
     by true e = rw e (λ z _. layout_covers s _ no_tile_info (args_before hdr) z)
     by false e = rw e (λ _ off. contrary refl off)
 

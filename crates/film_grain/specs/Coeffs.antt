@@ -7,7 +7,7 @@ use Rattle.seq_fields.specs.Fields.{get_small, bit_of}
 use Rattle.film_grain.specs.Points.{has_points}
 use Rattle.film_grain.specs.declared.PlaneCoeffs.{PlaneCoeffs}
 use Rattle.film_grain.specs.declared.coeffs.ChromaOffsets.{ChromaOffsets}
-use Rattle.film_grain.specs.declared.coeffs.Less.{Less}
+use Rattle.getbits.specs.declared.Read.{Read}
 use Rattle.film_grain.specs.declared.coeffs.OffsetsRead.{OffsetsRead}
 
 -- the coefficients of a plane
@@ -21,7 +21,7 @@ pub record CoeffLists : Type 0 where
   pub next : Place
 
 -- n bits less a number
-unfoldable pub bits_less : List ℕ → Place → ℕ → ℕ → Less
+unfoldable pub bits_less : List ℕ → Place → ℕ → ℕ → Read ℤ
 bits_less s p n less = then (get_bits s p (pos n)) λ r. record { value = pos r.value -ℤ pos less; next = r.next }
 
 -- a plane's coefficients of which none is read: zeros

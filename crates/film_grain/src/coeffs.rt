@@ -5,15 +5,8 @@ ghost use Rattle.film_grain.specs.Coeffs.{bits_less, coeff, coeffs_from, coeffs_
 ghost use Rattle.film_grain.specs.Inner.{lent_coeffs, coeff_lists};
 
 use super::points::has_points;
-use getbits::{Place, look_ahead, more_than, power, read_bits, skip};
+use getbits::{Place, Read, look_ahead, more_than, power, read_bits, skip};
 use seq_fields::{bit, get_small};
-
-// A signed number, and the place after it.
-#[derive(Clone, Copy)]
-pub struct Less {
-    pub value: i16,
-    pub next: Place,
-}
 
 // The offsets of a chroma plane.
 #[derive(Clone, Copy)]
@@ -42,13 +35,13 @@ fn minus(v: u32, less: u32) -> i16
 }
 
 // n bits less a number. The place goes on in its parts, as in get_small.
-fn bits_less(s: &[u8], p: Place, n: u32, less: u32) -> Less
+fn bits_less(s: &[u8], p: Place, n: u32, less: u32) -> Read<i16>
     requires { (n ≤ 9) × (less ≤ 256) }
     ensures { result ≡ bits_less s.now p n less }
 {
     let r = read_bits(s, p, n);
     let next = r.next;
-    Less {
+    Read {
         value: minus(r.value, less),
         next: Place {
             byte: next.byte,
@@ -175,12 +168,11 @@ fn offsets_if(s: &[u8], p: Place, cond: bool) -> OffsetsRead
         let mult = bits_less(s, p, 8, 128);
         let luma_mult = bits_less(s, mult.next, 8, 128);
         let offset = bits_less(s, luma_mult.next, 9, 256);
-        let next = offset.next;
         return OffsetsRead {
             mult: mult.value,
             luma_mult: luma_mult.value,
             offset: offset.value,
-            next,
+            next: offset.next,
         };
     }
     OffsetsRead {
@@ -197,11 +189,10 @@ pub fn chroma_offsets(s: &[u8], p: Place, num_points: [u8; 3]) -> ChromaOffsets
 {
     let u = offsets_if(s, p, has_points(num_points[1]));
     let v = offsets_if(s, u.next, has_points(num_points[2]));
-    let next = v.next;
     ChromaOffsets {
         uv_mult: [u.mult, v.mult],
         uv_luma_mult: [u.luma_mult, v.luma_mult],
         uv_offset: [u.offset, v.offset],
-        next,
+        next: v.next,
     }
 }

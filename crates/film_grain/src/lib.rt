@@ -113,12 +113,7 @@ fn refuse_grain(p: Place) -> FilmGrainRead
 fn is_i420(layout: PixelLayout) -> bool
     ensures { result ≡ is_i420 layout }
 {
-    match layout {
-        PixelLayout::I400 => false,
-        PixelLayout::I420 => true,
-        PixelLayout::I422 => false,
-        PixelLayout::I444 => false,
-    }
+    layout == PixelLayout::I420
 }
 
 // I420 only: is one chroma list empty and the other not?
@@ -163,7 +158,6 @@ fn read_fields(
     let clip = get_flag(s, overlap.next);
     let identity = flag_if(s, clip.next, clip.value);
     let block = get_small(s, identity.next, 1);
-    let next = block.next;
     let uv_mult = uv.uv_mult;
     let uv_luma_mult = uv.uv_luma_mult;
     let uv_offset = uv.uv_offset;
@@ -179,7 +173,7 @@ fn read_fields(
         clip_to_restricted_range: clip.value,
         mc_identity: identity.value,
         block_size: block.value,
-        next,
+        next: block.next,
     }
 }
 

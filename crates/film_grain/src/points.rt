@@ -79,11 +79,10 @@ fn read_point(s: &[u8], p: Place, index_bits: u32, scaling_bits: u32) -> PointRe
     }
     let step = read_bits(s, p, index_bits);
     let value = get_small(s, step.next, scaling_bits);
-    let next = value.next;
     PointRead {
         step: step.value,
         value: value.value,
-        next,
+        next: value.next,
     }
 }
 
@@ -146,22 +145,20 @@ fn point_widths(s: &[u8], p: Place) -> PointWidths
     }
     let n = get_small(s, p, 4);
     if (n.value == 0) | (14 < n.value) {
-        let next = n.next;
         return PointWidths {
             num_points: n.value,
             index_bits: 1,
             scaling_bits: 5,
-            next,
+            next: n.next,
         };
     }
     let index = get_small(s, n.next, 3);
     let scaling = get_small(s, index.next, 2);
-    let next = scaling.next;
     PointWidths {
         num_points: n.value,
         index_bits: 1 + index.value as u32,
         scaling_bits: 5 + scaling.value as u32,
-        next,
+        next: scaling.next,
     }
 }
 
@@ -213,10 +210,9 @@ pub fn point_lists(
     let y = points_if(s, p, true, &mut *y_list);
     let u = points_if(s, y.next, chroma & !y.refused, &mut *u_list);
     let v = points_if(s, u.next, chroma & !(y.refused | u.refused), &mut *v_list);
-    let next = v.next;
     ListsEnd {
         refused: y.refused | (u.refused | v.refused),
         num_points: [y.num_points, u.num_points, v.num_points],
-        next,
+        next: v.next,
     }
 }

@@ -1,18 +1,48 @@
 // Records in lent buffers: a tile layout and the features of the segments.
 #![tactic(auto)]
 
-ghost use Rattle.std.specs.Prelude.{true, [], ◌∷◌, ◌≡◌, ◌≤◌, length, replicate};
+ghost use Rattle.std.specs.Prelude.{true, map, [], ◌∷◌, ◌≡◌, ◌+◌, ◌≤◌, length, take, replicate};
 ghost use Rattle.flat.specs.Layout.{over_front, buffers, has_room, put_layout, starts_in, layout_in};
 ghost use Rattle.seq_fields.specs.Fields.{bit_of};
+ghost use Rattle.flat.specs.Rows.{PutAt};
 ghost use Rattle.flat.specs.Segments.{flat_masks, seg_info_of};
 
 use lent::is_set;
 use seg_info::{SegmentationDataSet, no_seg_info};
 use tile_layout::{TileInfo, no_tile_info};
 
-mod copy;
+// Numbers over the front of a buffer; one that has fewer stays as it was.
+fn put_front<T: Copy, const N: usize>(out: &mut [T], xs: &[T; N])
+    ensures { out.new ≡ over_front N xs.now out.old }
+{
+    if N <= out.len() {
+        out[..N].copy_from_slice(xs);
+    }
+}
 
-use copy::{copy_deltas, copy_starts, deltas_of, starts_of};
+// A row of numbers from `at` on, each as a wider type has it; the place behind them.
+pub fn put_row<T: Copy, U: Copy + From<T>>(out: &mut [U], at: usize, xs: &[T]) -> usize
+    requires { at + length xs.now ≤ length out.old }
+    ensures next { result ≡ at + length xs.now }
+    ensures row { (f : T → U) → ((x : T) (y : U) → U.from_gives x y → y ≡ f x)
+        → PutAt out.old at (map f xs.now) (length xs.now) out.new result }
+{
+    for (i, x) in xs.iter().enumerate() {
+        out[at + i] = U::from(*x);
+    }
+    at + xs.len()
+}
+
+// The first numbers of a buffer that has as many.
+fn front<T: Copy, const N: usize>(xs: &[T]) -> [T; N]
+    requires { N ≤ length xs.now }
+    ensures { result ≡ take N xs.now }
+{
+    let Some(first) = xs.first_chunk() else {
+        unreachable!()
+    };
+    *first
+}
 
 // Have the buffers of a layout room for it?
 pub fn has_room(info: &[u8], cols: &[u16], rows: &[u16]) -> bool
@@ -37,45 +67,42 @@ pub fn put_layout_bytes(
     ensures { info.new ≡ over_front 9 (bit_of uniform ∷ min_log2_cols ∷ max_log2_cols ∷ log2_cols ∷ cols
         ∷ min_log2_rows ∷ max_log2_rows ∷ log2_rows ∷ rows ∷ []) info.old }
 {
-    if info.len() < 9 {
-        return;
-    }
-    info[0] = uniform as u8;
-    info[1] = min_log2_cols;
-    info[2] = max_log2_cols;
-    info[3] = log2_cols;
-    info[4] = cols;
-    info[5] = min_log2_rows;
-    info[6] = max_log2_rows;
-    info[7] = log2_rows;
-    info[8] = rows;
+    put_front(
+        &mut *info,
+        &[
+            uniform as u8,
+            min_log2_cols,
+            max_log2_cols,
+            log2_cols,
+            cols,
+            min_log2_rows,
+            max_log2_rows,
+            log2_rows,
+            rows,
+        ],
+    );
 }
 
 pub fn put_starts(out: &mut [u16], starts: &[u16; 65])
     ensures { out.new ≡ over_front 65 starts.now out.old }
 {
-    if out.len() < 65 {
-        return;
-    }
-    copy_starts(&mut *out, starts);
+    put_front(&mut *out, starts);
 }
 
 pub fn clear_starts(out: &mut [u16])
     ensures { out.new ≡ over_front 65 (replicate 65 0) out.old }
 {
-    let none = [0u16; 65];
-    put_starts(&mut *out, &none);
+    put_starts(&mut *out, &[0; 65]);
 }
 
+#[tactic(auto, unfolding(crate::specs::Layout::put_layout))]
 pub fn put_tile_info(t: TileInfo, info: &mut [u8], cols: &mut [u16], rows: &mut [u16])
-    ensures rows_after { buffers info.new cols.new rows.new
+    ensures is_put { buffers info.new cols.new rows.new
         ≡ put_layout t (buffers info.old cols.old rows.old) }
-    ensures rows_after_2 { has_room (buffers info.old cols.old rows.old) ≡ true
+    ensures reads_back { has_room (buffers info.old cols.old rows.old) ≡ true
         → layout_in (buffers info.new cols.new rows.new) ≡ t }
 {
     if has_room(&*info, &*cols, &*rows) {
-        let col_start_sb = t.col_start_sb;
-        let row_start_sb = t.row_start_sb;
         put_layout_bytes(
             &mut *info,
             t.uniform,
@@ -88,8 +115,8 @@ pub fn put_tile_info(t: TileInfo, info: &mut [u8], cols: &mut [u16], rows: &mut 
             t.log2_rows,
             t.rows,
         );
-        put_starts(&mut *cols, &col_start_sb);
-        put_starts(&mut *rows, &row_start_sb);
+        put_starts(&mut *cols, &t.col_start_sb);
+        put_starts(&mut *rows, &t.row_start_sb);
     }
 }
 
@@ -98,18 +125,17 @@ pub fn starts_in(xs: &[u16]) -> [u16; 65]
     ensures { result ≡ starts_in xs.now }
 {
     if xs.len() < 65 {
-        return [0u16; 65];
+        return [0; 65];
     }
-    starts_of(xs)
+    front(xs)
 }
 
 // The layout in buffers that have room.
+#[tactic(auto, unfolding(crate::specs::Layout::layout_in))]
 fn layout_in(info: &[u8], cols: &[u16], rows: &[u16]) -> TileInfo
     requires { (9 ≤ length info.now) × (65 ≤ length cols.now) × (65 ≤ length rows.now) }
     ensures { result ≡ layout_in (buffers info.now cols.now rows.now) }
 {
-    let col_start_sb = starts_of(cols);
-    let row_start_sb = starts_of(rows);
     TileInfo {
         uniform: is_set(info[0]),
         min_log2_cols: info[1],
@@ -120,11 +146,12 @@ fn layout_in(info: &[u8], cols: &[u16], rows: &[u16]) -> TileInfo
         max_log2_rows: info[6],
         log2_rows: info[7],
         rows: info[8],
-        col_start_sb,
-        row_start_sb,
+        col_start_sb: front(cols),
+        row_start_sb: front(rows),
     }
 }
 
+#[tactic(auto, unfolding(crate::specs::Layout::layout_in))]
 pub fn tile_info_of(info: &[u8], cols: &[u16], rows: &[u16]) -> TileInfo
     ensures { result ≡ layout_in (buffers info.now cols.now rows.now) }
 {
@@ -137,24 +164,16 @@ pub fn tile_info_of(info: &[u8], cols: &[u16], rows: &[u16]) -> TileInfo
 pub fn put_delta_q(d: SegmentationDataSet, out: &mut [i16])
     ensures { out.new ≡ over_front 16 d.delta_q out.old }
 {
-    if out.len() < 16 {
-        return;
-    }
-    let delta_q = d.delta_q;
-    copy_deltas(&mut *out, &delta_q);
+    put_front(&mut *out, &d.delta_q);
 }
 
 pub fn put_masks(d: SegmentationDataSet, out: &mut [u16])
     ensures { out.new ≡ over_front 3 (flat_masks d) out.old }
 {
-    if out.len() < 3 {
-        return;
-    }
-    out[0] = d.delta_q_mask;
-    out[1] = d.skip_mask;
-    out[2] = d.globalmv_mask;
+    put_front(&mut *out, &[d.delta_q_mask, d.skip_mask, d.globalmv_mask]);
 }
 
+#[tactic(auto, unfolding(crate::specs::Segments::seg_info_of))]
 pub fn seg_info_of(delta_q: &[i16], masks: &[u16]) -> SegmentationDataSet
     ensures { result ≡ seg_info_of delta_q.now masks.now }
 {
@@ -164,9 +183,8 @@ pub fn seg_info_of(delta_q: &[i16], masks: &[u16]) -> SegmentationDataSet
     if masks.len() < 3 {
         return no_seg_info();
     }
-    let delta_q = deltas_of(delta_q);
     SegmentationDataSet {
-        delta_q,
+        delta_q: front(delta_q),
         delta_q_mask: masks[0],
         skip_mask: masks[1],
         globalmv_mask: masks[2],

@@ -4,24 +4,35 @@
 ghost use Rattle.std.specs.Prelude.{map, ◌≡◌, ℕ, ◌+◌, ◌<◌, ◌≤◌, pos, length};
 ghost use Rattle.flat.specs.Layout.{over_front};
 ghost use Rattle.flat.specs.Rows.{PutAt};
-ghost use Rattle.flat_grain.specs.Grain.{flat_head, flat_plane, flat_points, flat_coeffs, flat_offsets, flat_tail, flat_film_grain, HasLists};
+ghost use Rattle.flat_grain.specs.Grain.{flat_head, flat_plane, flat_points, flat_coeffs, flat_offsets, flat_tail, flat_film_grain, flat_pair, HasLists};
 
 use film_grain::{FilmGrainData, PlaneCoeffs, PlanePoints};
+use flat::put_row;
 
-mod put;
+// Bytes go into the buffer from `at` on; the place behind them.
+fn put_bytes(out: &mut [i16], at: usize, xs: &[u8]) -> usize
+    requires { at + length xs.now ≤ length out.old }
+    ensures { PutAt out.old at (map pos xs.now) (length xs.now) out.new result }
+{
+    put_row(&mut *out, at, xs)
+}
 
-use put::{put_bytes, put_coeffs, put_pair};
+fn put_pair(out: &mut [i16], at: usize, xs: [i16; 2]) -> usize
+    requires { at + 2 ≤ length out.old }
+    ensures { PutAt out.old at (flat_pair xs) 2 out.new result }
+{
+    put_row(&mut *out, at, &xs)
+}
 
 fn put_head(out: &mut [i16], at: usize, fgd: FilmGrainData) -> usize
     requires { at + 4 ≤ length out.old }
     ensures { PutAt out.old at (flat_head fgd) 4 out.new result }
 {
-    let num_points = fgd.num_points;
     let xs: [u8; 4] = [
         fgd.chroma_scaling_from_luma as u8,
-        num_points[0],
-        num_points[1],
-        num_points[2],
+        fgd.num_points[0],
+        fgd.num_points[1],
+        fgd.num_points[2],
     ];
     put_bytes(&mut *out, at, &xs)
 }
@@ -30,8 +41,7 @@ fn put_plane(out: &mut [i16], at: usize, list: PlanePoints) -> usize
     requires { at + 28 ≤ length out.old }
     ensures { PutAt out.old at (map pos list.points) 28 out.new result }
 {
-    let points = list.points;
-    put_bytes(&mut *out, at, &points)
+    put_bytes(&mut *out, at, &list.points)
 }
 
 fn put_points(out: &mut [i16], at: usize, points: [PlanePoints; 3]) -> usize
@@ -48,8 +58,7 @@ fn put_plane_coeffs(out: &mut [i16], at: usize, list: PlaneCoeffs) -> usize
     requires { at + 28 ≤ length out.old }
     ensures { PutAt out.old at list.coeffs 28 out.new result }
 {
-    let coeffs = list.coeffs;
-    put_coeffs(&mut *out, at, &coeffs)
+    put_row(&mut *out, at, &list.coeffs)
 }
 
 fn put_ar_coeffs(out: &mut [i16], at: usize, ar_coeffs: [PlaneCoeffs; 3]) -> usize
@@ -65,12 +74,9 @@ fn put_offsets(out: &mut [i16], at: usize, fgd: FilmGrainData) -> usize
     requires { at + 6 ≤ length out.old }
     ensures { PutAt out.old at (flat_offsets fgd) 6 out.new result }
 {
-    let uv_mult = fgd.uv_mult;
-    let uv_luma_mult = fgd.uv_luma_mult;
-    let uv_offset = fgd.uv_offset;
-    let at = put_pair(&mut *out, at, uv_mult);
-    let at = put_pair(&mut *out, at, uv_luma_mult);
-    put_pair(&mut *out, at, uv_offset)
+    let at = put_pair(&mut *out, at, fgd.uv_mult);
+    let at = put_pair(&mut *out, at, fgd.uv_luma_mult);
+    put_pair(&mut *out, at, fgd.uv_offset)
 }
 
 fn put_tail(out: &mut [i16], at: usize, fgd: FilmGrainData) -> usize
@@ -91,14 +97,12 @@ fn put_fields(out: &mut [i16], at: usize, fgd: FilmGrainData) -> usize
     ensures put_at { PutAt out.old at (flat_film_grain fgd) 186 out.new result }
     ensures by_index { (pl : ℕ) → pl < 3 → length (flat_plane fgd.points pl) ≡ 28 }
 {
-    let points = fgd.points;
-    let ar_coeffs = fgd.ar_coeffs;
     let scaling: [u8; 2] = [fgd.scaling_shift, fgd.ar_coeff_lag];
     let shifts: [u8; 2] = [fgd.ar_coeff_shift, fgd.grain_scale_shift];
     let at = put_head(&mut *out, at, fgd);
-    let at = put_points(&mut *out, at, points);
+    let at = put_points(&mut *out, at, fgd.points);
     let at = put_bytes(&mut *out, at, &scaling);
-    let at = put_ar_coeffs(&mut *out, at, ar_coeffs);
+    let at = put_ar_coeffs(&mut *out, at, fgd.ar_coeffs);
     let at = put_bytes(&mut *out, at, &shifts);
     let at = put_offsets(&mut *out, at, fgd);
     put_tail(&mut *out, at, fgd)

@@ -12,6 +12,7 @@ ghost use Rattle.flat_hdr.specs.Header.{flat_start, flat_level, flat_format, fla
 ghost use Rattle.flat_hdr.specs.Header.{flat_partition, flat_segmentation, flat_intra, flat_blocks, flat_motion, flat_ref_frames};
 ghost use Rattle.flat_hdr.specs.Header.{flat_drl, flat_tip, flat_mv, flat_screen, flat_inter, flat_transform, flat_entropy, flat_quant, flat_residual, flat_filters};
 
+use flat::put_row;
 use seg_info::SegmentationDataSet;
 use seq_blocks::{Blocks, Intra, Partition, SeqSegmentation};
 use seq_fields::{AdaptiveBoolean, PixelLayout};
@@ -20,9 +21,13 @@ use seq_picture::{CropInfo, Dependencies, Format, FrameSize, Layers, Level, Pict
 use seq_record::{SequenceHeader, Start};
 use seq_residual::{Entropy, Filters, Quant, Residual, Transform};
 
-mod put;
-
-use put::{put_bytes, put_deltas, put_one, put_one_signed};
+// Bytes go into the buffer from `at` on; the place behind them.
+fn put_bytes(out: &mut [i64], at: usize, xs: &[u8]) -> usize
+    requires { at + length xs.now ≤ length out.old }
+    ensures { PutAt out.old at (as_signed xs.now) (length xs.now) out.new result }
+{
+    put_row(&mut *out, at, xs)
+}
 
 fn layout_number(layout: PixelLayout) -> u8
     ensures { result ≡ layout_number layout }
@@ -51,14 +56,13 @@ pub fn put_head(out: &mut [i64], start: Start, level: Level, format: Format)
     if out.len() < 146 {
         return;
     }
-    let layout = format.layout;
     let xs: [u8; 9] = [
         start.id,
         start.profile,
         level.reduced_still_picture_header as u8,
         level.level,
         level.tier,
-        layout_number(layout),
+        layout_number(format.layout),
         format.ss_hor,
         format.ss_ver,
         format.hbd,
@@ -86,19 +90,15 @@ fn put_size(out: &mut [i64], at: usize, s: FrameSize) -> usize
 {
     let bits: [u8; 2] = [s.width_n_bits, s.height_n_bits];
     let at = put_bytes(&mut *out, at, &bits);
-    let at = put_one_signed(&mut *out, at, s.max_width);
-    put_one_signed(&mut *out, at, s.max_height)
+    put_row(&mut *out, at, &[s.max_width, s.max_height])
 }
 
 fn put_crop(out: &mut [i64], at: usize, c: CropInfo) -> usize
     requires { at + 5 ≤ length out.old }
     ensures { PutAt out.old at (flat_crop c) 5 out.new result }
 {
-    let at = put_one(&mut *out, at, c.enabled as u32);
-    let at = put_one(&mut *out, at, c.left);
-    let at = put_one(&mut *out, at, c.right);
-    let at = put_one(&mut *out, at, c.top);
-    put_one(&mut *out, at, c.bottom)
+    let xs: [u32; 5] = [c.enabled as u32, c.left, c.right, c.top, c.bottom];
+    put_row(&mut *out, at, &xs)
 }
 
 fn put_dependencies(out: &mut [i64], at: usize, d: Dependencies) -> usize
@@ -109,11 +109,9 @@ fn put_dependencies(out: &mut [i64], at: usize, d: Dependencies) -> usize
         d.tlayer_dependency_present as u8,
         d.mlayer_dependency_present as u8,
     ];
-    let tlayer = d.tlayer_dependencies;
-    let mlayer = d.mlayer_dependencies;
     let at = put_bytes(&mut *out, at, &present);
-    let at = put_bytes(&mut *out, at, &tlayer);
-    put_bytes(&mut *out, at, &mlayer)
+    let at = put_bytes(&mut *out, at, &d.tlayer_dependencies);
+    put_bytes(&mut *out, at, &d.mlayer_dependencies)
 }
 
 pub fn put_picture(out: &mut [i64], p: Picture)
@@ -147,9 +145,8 @@ fn put_masks(out: &mut [i64], at: usize, d: SegmentationDataSet) -> usize
     requires { at + 3 ≤ length out.old }
     ensures { PutAt out.old at (as_signed (flat_masks d)) 3 out.new result }
 {
-    let at = put_one(&mut *out, at, d.delta_q_mask as u32);
-    let at = put_one(&mut *out, at, d.skip_mask as u32);
-    put_one(&mut *out, at, d.globalmv_mask as u32)
+    let xs: [u16; 3] = [d.delta_q_mask, d.skip_mask, d.globalmv_mask];
+    put_row(&mut *out, at, &xs)
 }
 
 fn put_segmentation(out: &mut [i64], at: usize, s: SeqSegmentation) -> usize
@@ -157,11 +154,9 @@ fn put_segmentation(out: &mut [i64], at: usize, s: SeqSegmentation) -> usize
     ensures { PutAt out.old at (flat_segmentation s) 22 out.new result }
 {
     let flags: [u8; 3] = [s.ext as u8, s.info_present as u8, s.adaptive as u8];
-    let d = s.d;
-    let delta_q = d.delta_q;
     let at = put_bytes(&mut *out, at, &flags);
-    let at = put_deltas(&mut *out, at, &delta_q);
-    put_masks(&mut *out, at, d)
+    let at = put_row(&mut *out, at, &s.d.delta_q);
+    put_masks(&mut *out, at, s.d)
 }
 
 fn put_intra(out: &mut [i64], at: usize, i: Intra) -> usize
@@ -268,11 +263,9 @@ fn put_screen(out: &mut [i64], at: usize, s: Screen) -> usize
     requires { at + 2 ≤ length out.old }
     ensures { PutAt out.old at (flat_screen s) 2 out.new result }
 {
-    let screen_content_tools = s.screen_content_tools;
-    let force_integer_mv = s.force_integer_mv;
     let xs: [u8; 2] = [
-        adaptive_number(screen_content_tools),
-        adaptive_number(force_integer_mv),
+        adaptive_number(s.screen_content_tools),
+        adaptive_number(s.force_integer_mv),
     ];
     put_bytes(&mut *out, at, &xs)
 }
@@ -293,12 +286,11 @@ fn put_transform(out: &mut [i64], at: usize, t: Transform) -> usize
     requires { at + 8 ≤ length out.old }
     ensures { PutAt out.old at (flat_transform t) 8 out.new result }
 {
-    let ist = t.ist;
     let xs: [u8; 8] = [
         t.fsc as u8,
         t.idtx_intra as u8,
-        ist[0] as u8,
-        ist[1] as u8,
+        t.ist[0] as u8,
+        t.ist[1] as u8,
         t.chroma_dctonly as u8,
         t.inter_ddt as u8,
         t.reduced_tx_part_set as u8,
@@ -311,9 +303,8 @@ fn put_entropy(out: &mut [i64], at: usize, e: Entropy) -> usize
     requires { at + 4 ≤ length out.old }
     ensures { PutAt out.old at (flat_entropy e) 4 out.new result }
 {
-    let tcq = e.tcq;
     let xs: [u8; 4] = [
-        adaptive_number(tcq),
+        adaptive_number(e.tcq),
         e.parity_hiding as u8,
         e.avg_cdf as u8,
         e.avg_cdf_type,
@@ -334,7 +325,7 @@ fn put_quant(out: &mut [i64], at: usize, q: Quant) -> usize
         q.uvac_dq_enabled as u8,
     ];
     let at = put_bytes(&mut *out, at, &first);
-    let at = put_one_signed(&mut *out, at, q.base_ydc_dq as i32);
+    let at = put_row(&mut *out, at, &[q.base_ydc_dq]);
     put_bytes(&mut *out, at, &rest)
 }
 
@@ -355,19 +346,17 @@ pub fn put_filters(out: &mut [i64], f: Filters)
     if out.len() < 146 {
         return;
     }
-    let rst_disable_mask = f.rst_disable_mask;
-    let cdef_on_skiptx = f.cdef_on_skiptx;
     let xs: [u8; 11] = [
         f.disable_loopfilters_across_tiles as u8,
         f.cdef as u8,
         f.gdf as u8,
         f.gdf_unit_matches_sbsz as u8,
         f.restoration as u8,
-        rst_disable_mask[0],
-        rst_disable_mask[1],
+        f.rst_disable_mask[0],
+        f.rst_disable_mask[1],
         f.ccso as u8,
         f.ccso_unit_matches_sbsz as u8,
-        adaptive_number(cdef_on_skiptx),
+        adaptive_number(f.cdef_on_skiptx),
         f.df_par_bits,
     ];
     put_bytes(&mut *out, 133, &xs);
@@ -386,8 +375,6 @@ pub fn put_last(out: &mut [i64], present: AdaptiveBoolean, film_grain_present: b
 pub fn put_seq_hdr(hdr: SequenceHeader, out: &mut [i64])
     ensures { out.new ≡ over_front 146 (flat_seq_hdr hdr) out.old }
 {
-    let tiling = hdr.tiling;
-    let present = tiling.present;
     put_head(&mut *out, hdr.start, hdr.level, hdr.format);
     put_picture(&mut *out, hdr.picture);
     put_blocks(&mut *out, hdr.blocks);
@@ -395,7 +382,7 @@ pub fn put_seq_hdr(hdr: SequenceHeader, out: &mut [i64])
     put_inter(&mut *out, hdr.inter);
     put_residual(&mut *out, hdr.residual);
     put_filters(&mut *out, hdr.filters);
-    put_last(&mut *out, present, hdr.film_grain_present);
+    put_last(&mut *out, hdr.tiling.present, hdr.film_grain_present);
 }
 
 // The numbers of the zero record.
@@ -405,9 +392,5 @@ pub fn put_zeros(out: &mut [i64])
     if out.len() < 146 {
         return;
     }
-    let mut i: usize = 0;
-    while i < 146 {
-        out[i] = 0;
-        i += 1;
-    }
+    out[..146].fill(0);
 }

@@ -21,10 +21,8 @@ fn starts_low(starts: &[u16], n: u8) -> bool
     ensures { result ≡ starts_low (take 65 starts.now) n }
 {
     let mut low = starts[0] <= 1024;
-    let mut i: u8 = 0;
-    while i < n {
-        i += 1;
-        low = low & (starts[i as usize] <= 1024);
+    for start in &starts[1..=n as usize] {
+        low &= *start <= 1024;
     }
     low
 }
@@ -42,11 +40,7 @@ fn usable_tiles(tiles: u8, log2: u8, starts: &[u16]) -> bool
 pub fn is_off(present: AdaptiveBoolean) -> bool
     ensures { result ≡ is_off present }
 {
-    match present {
-        AdaptiveBoolean::Off => true,
-        AdaptiveBoolean::On => false,
-        AdaptiveBoolean::Adaptive => false,
-    }
+    present == AdaptiveBoolean::Off
 }
 
 pub fn is_usable(

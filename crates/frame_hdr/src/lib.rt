@@ -41,12 +41,7 @@ pub struct FrameOutcome {
 fn is_inter_or_switch(frame_type: FrameType) -> bool
     ensures { result ≡ is_inter_or_switch frame_type }
 {
-    match frame_type {
-        FrameType::Key => false,
-        FrameType::Inter => true,
-        FrameType::Intra => false,
-        FrameType::Switch => true,
-    }
+    matches!(frame_type, FrameType::Inter | FrameType::Switch)
 }
 
 // The frame's superblock code.
@@ -56,7 +51,7 @@ fn frame_code(frame_type: FrameType, seq_sb128: u8) -> u8
     if is_inter_or_switch(frame_type) {
         return seq_sb128;
     }
-    if seq_sb128 != 0 { 1 } else { 0 }
+    u8::from(seq_sb128 != 0)
 }
 
 fn frame_args(
@@ -101,9 +96,9 @@ fn fresh_layout(
     cols: &mut [u16],
     rows: &mut [u16],
 ) -> FrameOutcome
-    requires a_value { in_domain a ≡ true }
+    requires in_the_domain { in_domain a ≡ true }
     requires width_value { (a.width ≡ unsigned width) × (a.height ≡ unsigned height) }
-    requires rows_value { has_room (buffers info.old cols.old rows.old) ≡ true }
+    requires room { has_room (buffers info.old cols.old rows.old) ≡ true }
     ensures { let before = buffers info.old cols.old rows.old in
         let after = buffers info.new cols.new rows.new in
         let z = parse_tile_info s.now p (layout_in before) a in
@@ -125,19 +120,17 @@ fn fresh_layout(
         a.level,
         a.tier,
     );
-    let answer = r.answer;
-    let next = r.next;
-    if is_refusal(answer) {
+    if is_refusal(r.answer) {
         return FrameOutcome {
-            answer,
+            answer: r.answer,
             sb128,
-            next,
+            next: r.next,
         };
     }
     FrameOutcome {
-        answer,
+        answer: r.answer,
         sb128: a.frame_code,
-        next,
+        next: r.next,
     }
 }
 
@@ -146,11 +139,10 @@ fn unread(s: &[u8], p: Place, answer: Answer, sb128: u8) -> FrameOutcome
     ensures { result ≡ record { answer = answer; sb128 = sb128; next = settled s.now p } }
 {
     let here = read_bits(s, p, 0);
-    let next = here.next;
     FrameOutcome {
         answer,
         sb128,
-        next,
+        next: here.next,
     }
 }
 
@@ -175,19 +167,19 @@ pub fn frame_layout_into(
     seq_cols: &[u16],
     seq_rows: &[u16],
 ) -> FrameOutcome
-    ensures after_after { let before = buffers info.old cols.old rows.old in
+    ensures outcome { let before = buffers info.old cols.old rows.old in
         let after = buffers info.new cols.new rows.new in
         let seq-before = buffers seq_info.now seq_cols.now seq_rows.now in
         let hdr = frame_in frame_type width height sb128 before in
         let seq = seq_in seq_sb128 max_width max_height level tier present seq-before in
         (result, after) ≡ parse_tile_info_frmhdr_into s.now p before seq-before hdr seq }
-    ensures fact { let before = buffers info.old cols.old rows.old in
+    ensures as_by_value { let before = buffers info.old cols.old rows.old in
         let after = buffers info.new cols.new rows.new in
         let seq-before = buffers seq_info.now seq_cols.now seq_rows.now in
         let hdr = frame_in frame_type width height sb128 before in
         let seq = seq_in seq_sb128 max_width max_height level tier present seq-before in
         (has_room before && has_room seq-before ≡ true → frame_layout_left hdr result after ≡ parse_tile_info_frmhdr s.now p hdr seq) }
-    ensures fact_2 { let before = buffers info.old cols.old rows.old in
+    ensures frame_layout { let before = buffers info.old cols.old rows.old in
         let after = buffers info.new cols.new rows.new in
         let seq-before = buffers seq_info.now seq_cols.now seq_rows.now in
         let hdr = frame_in frame_type width height sb128 before in
@@ -226,7 +218,6 @@ pub fn frame_layout_into(
         seq_info[7],
     );
     let reuse = read_reuse(s, p, allowed, present);
-    let next = reuse.next;
     if reuse.value {
         reused_layout(
             a, seq_info, seq_cols, seq_rows, &mut *info, &mut *cols, &mut *rows,
@@ -234,11 +225,11 @@ pub fn frame_layout_into(
         return FrameOutcome {
             answer: Answer::Accepted,
             sb128: a.frame_code,
-            next,
+            next: reuse.next,
         };
     }
     fresh_layout(
-        s, next, a, width, height, sb128, &mut *info, &mut *cols, &mut *rows,
+        s, reuse.next, a, width, height, sb128, &mut *info, &mut *cols, &mut *rows,
     )
 }
 
@@ -246,9 +237,8 @@ pub fn frame_layout_into(
 fn with_layout(hdr: FrameHeader, sb128: u8, tiling: TileInfo) -> FrameHeader
     ensures { result ≡ with_layout hdr sb128 tiling }
 {
-    let frame_type = hdr.frame_type;
     FrameHeader {
-        frame_type,
+        frame_type: hdr.frame_type,
         width: hdr.width,
         height: hdr.height,
         sb128,
@@ -261,8 +251,6 @@ pub fn frame_layout(s: &[u8], p: Place, hdr: FrameHeader, seq: SeqLayout) -> Fra
     ensures value { result ≡ parse_tile_info_frmhdr s.now p hdr seq }
     ensures frame_layout { FrameLayout s.now p hdr seq result }
 {
-    let frame_type = hdr.frame_type;
-    let present = seq.present;
     let mut info = [0u8; 9];
     let mut cols = [0u16; 65];
     let mut rows = [0u16; 65];
@@ -274,7 +262,7 @@ pub fn frame_layout(s: &[u8], p: Place, hdr: FrameHeader, seq: SeqLayout) -> Fra
     let r = frame_layout_into(
         s,
         p,
-        frame_type,
+        hdr.frame_type,
         hdr.width,
         hdr.height,
         hdr.sb128,
@@ -286,18 +274,16 @@ pub fn frame_layout(s: &[u8], p: Place, hdr: FrameHeader, seq: SeqLayout) -> Fra
         seq.max_height,
         seq.level,
         seq.tier,
-        present,
+        seq.present,
         &seq_info,
         &seq_cols,
         &seq_rows,
     );
-    let answer = r.answer;
-    let next = r.next;
     let tiling = tile_info_of(&info, &cols, &rows);
     FrameRead {
-        answer,
+        answer: r.answer,
         hdr: with_layout(hdr, r.sb128, tiling),
-        next,
+        next: r.next,
     }
 }
 
@@ -308,16 +294,14 @@ fn seq_layout(seqhdr: SequenceHeader) -> SeqLayout
     let picture = seqhdr.picture;
     let size = picture.size;
     let tiling = seqhdr.tiling;
-    let present = tiling.present;
-    let t = tiling.t;
     SeqLayout {
         sb128: seqhdr.blocks.partition.sb128,
         max_width: size.max_width,
         max_height: size.max_height,
         level: seqhdr.level.level,
         tier: seqhdr.level.tier,
-        present,
-        t,
+        present: tiling.present,
+        t: tiling.t,
     }
 }
 

@@ -9,7 +9,7 @@ ghost use Rattle.frame_layout.specs.Frame.{starts_low, usable_tiles, is_off, not
 
 use super::domain::is_off;
 use flat::{clear_starts, put_layout_bytes};
-use getbits::{Flag, Place, get_flag, read_bits};
+use getbits::{Place, Read, get_flag, read_bits};
 use lent::is_set;
 use seq_fields::AdaptiveBoolean;
 use superblocks::{FrameSb, Pair, seq_start};
@@ -36,7 +36,7 @@ pub fn reuse_allowed(
     log2_cols: u8,
     log2_rows: u8,
 ) -> bool
-    requires a_value { in_domain a ≡ true }
+    requires in_the_domain { in_domain a ≡ true }
     requires log2_cols_bound { is_off present ≡ false → (log2_cols ≤ 6) × (log2_rows ≤ 6) }
     ensures { result ≡ pick (is_off present) false (pick uniform (fits_uniform log2_cols (sbw a) && fits_uniform log2_rows (sbh a))
         (eqb (superblocks (unsigned max_width) a.seq_code) (sbw a) && eqb (superblocks (unsigned max_height) a.seq_code) (sbh a))) }
@@ -54,17 +54,17 @@ pub fn reuse_allowed(
 }
 
 // Where it is allowed, On reuses it without a bit, and for Adaptive a bit says whether.
-pub fn read_reuse(s: &[u8], p: Place, reuse_allowed: bool, present: AdaptiveBoolean) -> Flag
+pub fn read_reuse(s: &[u8], p: Place, reuse_allowed: bool, present: AdaptiveBoolean) -> Read<bool>
     ensures { result ≡ pick reuse_allowed (ask_reuse present s.now p) (not_reused s.now p) }
 {
     let here = read_bits(s, p, 0);
     let next = here.next;
     if !reuse_allowed {
-        return Flag { value: false, next };
+        return Read { value: false, next };
     }
     match present {
-        AdaptiveBoolean::Off => Flag { value: false, next },
-        AdaptiveBoolean::On => Flag { value: true, next },
+        AdaptiveBoolean::Off => Read { value: false, next },
+        AdaptiveBoolean::On => Read { value: true, next },
         AdaptiveBoolean::Adaptive => get_flag(s, p),
     }
 }
@@ -76,10 +76,8 @@ fn frame_starts(at: &mut [u16], starts: &[u16], pair: Pair, tiles: u8)
         at.new ≡ padded (tabulate (λ i. multiplier * get_or (take 65 starts.now) i 0) 0 tiles) ++ drop 65 at.old }
 {
     clear_starts(&mut *at);
-    let mut i: u8 = 0;
-    while i < tiles {
+    for i in 0..tiles {
         at[i as usize] = seq_start(starts, i).in_frame(pair).number();
-        i += 1;
     }
 }
 
@@ -114,8 +112,8 @@ pub fn reused_layout(
     cols: &mut [u16],
     rows: &mut [u16],
 )
-    requires a_value { in_domain a ≡ true }
-    requires rows_value { has_room (buffers info.old cols.old rows.old) ≡ true }
+    requires in_the_domain { in_domain a ≡ true }
+    requires room { has_room (buffers info.old cols.old rows.old) ≡ true }
     requires in_bounds { (9 ≤ length seq_info.now) × (65 ≤ length seq_cols.now) × (65 ≤ length seq_rows.now) }
     requires seq_cols_value { usable_tiles (get_or seq_info.now 4 0) (get_or seq_info.now 3 0) (take 65 seq_cols.now) ≡ true }
     requires seq_rows_value { usable_tiles (get_or seq_info.now 8 0) (get_or seq_info.now 7 0) (take 65 seq_rows.now) ≡ true }

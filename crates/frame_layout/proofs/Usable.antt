@@ -10,7 +10,7 @@ use borrow.Author.Tests.{leb-true}
 use lib.Dec.{T, leb}
 use lib.ListN.{get_or}
 use Rattle.getbits.specs.Chain.{pick}
-use Rattle.getbits.specs.declared.Flag.{Flag}
+use Rattle.getbits.specs.declared.Read.{Read}
 use Rattle.getbits.specs.declared.Place.{Place}
 use Rattle.getbits.proofs.Chain.{both}
 use Rattle.getbits.proofs.Places.{lt_or_le}
@@ -131,6 +131,6 @@ module _ (h : FrameHeader) (q : SeqLayout) (e : in_frame_domain h q ≡ true) wh
       })
 
 -- a layout is reused only where it is allowed
-pub allowed_only : (allowed : Bool) (s : List ℕ) (p : Place) (asked : Flag) → (pick allowed asked (not_reused s p)).value ≡ true → allowed ≡ true
+pub allowed_only : (allowed : Bool) (s : List ℕ) (p : Place) (asked : Read Bool) → (pick allowed asked (not_reused s p)).value ≡ true → allowed ≡ true
 allowed_only true s p asked e = refl
 allowed_only false s p asked e = absurd (subst T (sym e) tt)

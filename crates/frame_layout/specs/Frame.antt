@@ -4,7 +4,7 @@ use Rattle.answers.specs.Numbers.{is_refusal}
 use Rattle.answers.specs.declared.Answer.TheVariants.{Accepted, WrongArguments}
 use Rattle.getbits.specs.Bits.{settled, get_flag}
 use Rattle.getbits.specs.Chain.{pick, then}
-use Rattle.getbits.specs.declared.Flag.{Flag}
+use Rattle.getbits.specs.declared.Read.{Read}
 use Rattle.getbits.specs.declared.Place.{Place}
 use Rattle.seq_fields.specs.declared.AdaptiveBoolean.{AdaptiveBoolean}
 use Rattle.seq_fields.specs.declared.AdaptiveBoolean.TheVariants.{Off, On, Adaptive}
@@ -114,17 +114,17 @@ reuse_allowed a q =
     (same_counts a q))
 
 -- not reused, and no bit used
-abbrev pub not_reused : List ℕ → Place → Flag
+abbrev pub not_reused : List ℕ → Place → Read Bool
 not_reused s p = record { value = false; next = settled s p }
 
 -- where it may: On reuses it without a bit, and for Adaptive a bit says whether
-unfoldable pub ask_reuse : AdaptiveBoolean → List ℕ → Place → Flag
+unfoldable pub ask_reuse : AdaptiveBoolean → List ℕ → Place → Read Bool
 ask_reuse Off s p = not_reused s p
 ask_reuse On s p = record { value = true; next = settled s p }
 ask_reuse Adaptive s p = get_flag s p
 
 -- is the sequence's layout reused, and the place after the question
-unfoldable pub read_reuse : List ℕ → Place → TileArgs → SeqLayout → Flag
+unfoldable pub read_reuse : List ℕ → Place → TileArgs → SeqLayout → Read Bool
 read_reuse s p a q = pick (reuse_allowed a q) (ask_reuse q.present s p) (not_reused s p)
 
 -- the starts times the multiplier; only with multiplier 2 is the closing entry set to the frame's

@@ -9,7 +9,7 @@ use getbits::Place;
 use seq_fields::AdaptiveBoolean;
 use tile_layout::{TileInfo, TileRead};
 
-#[derive(Clone, Copy)]
+#[derive(Clone, Copy, PartialEq, Eq)]
 pub enum FrameType {
     Key,
     Inter,
@@ -51,11 +51,12 @@ pub struct FrameRead {
 pub fn frame_tiles(r: FrameRead) -> TileRead
     ensures { result ≡ frame_tiles r }
 {
-    let answer = r.answer;
-    let hdr = r.hdr;
-    let info = hdr.tiling;
-    let next = r.next;
-    TileRead { answer, info, next }
+    let info = r.hdr.tiling;
+    TileRead {
+        answer: r.answer,
+        info,
+        next: r.next,
+    }
 }
 
 // The type with a number.

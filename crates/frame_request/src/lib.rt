@@ -1,8 +1,8 @@
 // What the programs frame, panel, rects and draw share: a sequence header, a frame and tiling bits in bytes, and the text of a frame's layout.
 #![tactic(auto)]
 
-ghost use Rattle.std.specs.Prelude.{true, ◌≡◌, ◌≤◌};
-ghost use Rattle.text.specs.Text.{Put};
+ghost use Rattle.std.specs.Prelude.{true, ◌≡◌, ◌≤◌, length};
+ghost use Rattle.text.specs.Text.{put};
 ghost use Rattle.frame_request.specs.Print.{frame_read_text};
 ghost use Rattle.frame_request.specs.Request.{frame_of, given_frame, is_frame_request, no_frame, request_header, sequence_args, frame_request};
 
@@ -12,6 +12,7 @@ use frame_layout::{FrameHeader, FrameRead, FrameType, frame_type_of};
 use getbits::Place;
 use program::{byte_at, is_input, put_refused, two_at};
 use seq_hdr::{SeqRead, parse_seq_hdr};
+use text::Text;
 use tile_layout::no_tile_info;
 use tile_request::put_whole_layout;
 
@@ -128,15 +129,14 @@ pub fn frame_request(s: &[u8]) -> FrameRead
     parse_tile_info_frmhdr(&s[bits..], start, given_frame(s), seqhdr)
 }
 
-pub fn put_frame_read(out: &mut [u8], r: FrameRead) -> usize
-    ensures { Put 2969 out.old 0 (frame_read_text r) out.new result }
+#[tactic(auto, unfolding(crate::specs::Print::frame_read_text))]
+pub fn put_frame_read<const N: usize>(out: &mut Text<N>, r: &FrameRead)
+    ensures text { out.new ≡ put N out.old (frame_read_text r.now) }
+    ensures size { length (frame_read_text r.now) ≤ 2969 }
 {
-    let answer = r.answer;
-    if is_refusal(answer) {
-        return put_refused(out, 0, number(answer));
+    if is_refusal(r.answer) {
+        put_refused(out, number(r.answer));
+    } else {
+        put_whole_layout(out, &r.hdr.tiling, r.next, r.hdr.sb128);
     }
-    let hdr = r.hdr;
-    let tiling = hdr.tiling;
-    let next = r.next;
-    put_whole_layout(out, tiling, next, hdr.sb128)
 }

@@ -13,7 +13,7 @@ use lib.ListN.{length}
 use lib.Pow.{pow_pos}
 use Rattle.getbits.specs.Bits.{bit_at, bits_at, bit_count, position, place_at, settled, refused, run_out, read_bits, get_bit, get_bits, byte_pos}
 use Rattle.getbits.specs.declared.Place.{Place}
-use Rattle.getbits.specs.declared.Number.{Number}
+use Rattle.getbits.specs.declared.Read.{Read}
 use Rattle.getbits.proofs.Chain.{picked}
 use Rattle.getbits.proofs.Fields.{bits_lt, bits_add, bits_one, bit_past}
 use Rattle.getbits.proofs.Places.{lt_or_le, pos_le, pos_at, read_short}
@@ -28,7 +28,7 @@ unfolding get_bits
 width_over s p n h = rw (lt-leb n 32 h)
 
 -- what read_bits answers at such a width is the reading
-pub as_read : (s : List ℕ) (p : Place) (n : ℕ) {r : Number} → n ≤ 32 → r ≡ get_bits s p (pos n) → r ≡ read_bits s p n
+pub as_read : (s : List ℕ) (p : Place) (n : ℕ) {r : Read ℕ} → n ≤ 32 → r ≡ get_bits s p (pos n) → r ≡ read_bits s p n
 as_read s p n h e = e ∙ sym (width_in s p n h)
 
 -- no bits: 0, and the place as it is
@@ -55,7 +55,7 @@ read_more s p n h =
     rw (read_there s p n (omega arith), read_there s p (n + 1) h, read_there s q 1 (omega (arith, at)), at, e) (omega (arith, bits_add s k n 1), refl)
 
 -- a reading, with its question answered
-pub read_cases : (P : Number → Type 0) (s : List ℕ) (p : Place) (n : ℕ)
+pub read_cases : (P : Read ℕ → Type 0) (s : List ℕ) (p : Place) (n : ℕ)
     → (position s p + n ≤ bit_count s → P (record { value = bits_at s (position s p) n; next = place_at (position s p + n) p.error }))
     → (bit_count s < position s p + n → P (run_out s))
     → P (read_bits s p n)
@@ -69,7 +69,7 @@ read_cases P s p n f g =
 
 -- n bits read a number below 2 ^ n
 pub read_lt : (s : List ℕ) (p : Place) (n : ℕ) → (read_bits s p n).value < 2 ^ n
-read_lt s p n = read_cases (λ (r : Number). r.value < 2 ^ n) s p n (λ _. bits_lt s (position s p) n) (λ _. pow_pos n)
+read_lt s p n = read_cases (λ (r : Read ℕ). r.value < 2 ^ n) s p n (λ _. bits_lt s (position s p) n) (λ _. pow_pos n)
 
 pub bit_lt : (s : List ℕ) (p : Place) → (get_bit s p).value < 2
 unfolding get_bit
@@ -78,13 +78,13 @@ bit_lt s p = read_lt s p 1
 -- a reading ends n bits on, or at the end
 pub read_pos : (s : List ℕ) (p : Place) (n : ℕ) → position s (read_bits s p n).next ≡ min (position s p + n) (bit_count s)
 read_pos s p n =
-    read_cases (λ (r : Number). position s r.next ≡ min (position s p + n) (bit_count s)) s p n
+    read_cases (λ (r : Read ℕ). position s r.next ≡ min (position s p + n) (bit_count s)) s p n
     (λ h. pos_at s (position s p + n) p.error h ∙ omega arith)
     (λ h. pos_at s (bit_count s) true (le_refl (bit_count s)) ∙ omega arith)
 
 -- bits that are not all there lead to the end
 ends : (s : List ℕ) (p : Place) (n : ℕ) → bit_count s < position s p + n → (read_bits s p n).next ≡ place_at (bit_count s) true
-ends s p n h = ap (λ (r : Number). r.next) (sym (read_short s p n h))
+ends s p n h = ap (λ (r : Read ℕ). r.next) (sym (read_short s p n h))
 
 -- m bits and then n lead as far as both together
 pub read_join : (s : List ℕ) (p : Place) (m n : ℕ) → 1 ≤ n → (read_bits s (read_bits s p m).next n).next ≡ (read_bits s p (m + n)).next
@@ -100,7 +100,7 @@ read_join s p m n l =
 pub bit_is : (s : List ℕ) (p : Place) → (get_bit s p).value ≡ bit_at s (position s p)
 unfolding get_bit
 bit_is s p =
-    read_cases (λ (r : Number). r.value ≡ bit_at s (position s p)) s p 1
+    read_cases (λ (r : Read ℕ). r.value ≡ bit_at s (position s p)) s p 1
     (λ _. bits_one s (position s p))
     (λ h. sym (bit_past s (position s p) (omega arith)))
 
@@ -114,12 +114,12 @@ bits_next s p j =
 
 -- the error never clears
 pub read_error : (s : List ℕ) (p : Place) (n : ℕ) → p.error ≡ true → (read_bits s p n).next.error ≡ true
-read_error s p n e = read_cases (λ (r : Number). r.next.error ≡ true) s p n (λ h. e) (λ h. refl)
+read_error s p n e = read_cases (λ (r : Read ℕ). r.next.error ≡ true) s p n (λ h. e) (λ h. refl)
 
 -- no error after it means that there was none before and all n bits were there
 pub read_clean : (s : List ℕ) (p : Place) (n : ℕ) → (read_bits s p n).next.error ≡ false → (p.error ≡ false) × (position s p + n ≤ bit_count s)
 read_clean s p n =
-    read_cases (λ (r : Number). r.next.error ≡ false → (p.error ≡ false) × (position s p + n ≤ bit_count s)) s p n
+    read_cases (λ (r : Read ℕ). r.next.error ≡ false → (p.error ≡ false) × (position s p + n ≤ bit_count s)) s p n
     (λ h e. (e, h))
     (λ h e. absurd (subst T e tt))
 

@@ -10,7 +10,7 @@ use lib.Dec.{ltb, eqb}
 use lib.IntN.{pos}
 use lib.Pow.{high, low}
 use Rattle.getbits.specs.Bits.{bits_at, bit_count, position, place_at, read_bits, look_at, get_bit, get_bits, get_flag}
-use Rattle.getbits.specs.declared.Number.{Number}
+use Rattle.getbits.specs.declared.Read.{Read}
 use Rattle.getbits.specs.declared.Place.{Place}
 use Rattle.getbits.proofs.Callers.{width_in, read_there}
 use Rattle.getbits.proofs.Chain.{taken}
@@ -28,7 +28,7 @@ look_bits s p n h e = e ∙ taken _ _ _ (le-leb n 32 h)
 
 -- skip, where the bits are there
 pub skip_there : (s : List ℕ) (p : Place) (n : ℕ) {r : Place} → position s p + n ≤ bit_count s → r ≡ (read_bits s p n).next → r ≡ place_at (position s p + n) p.error
-skip_there s p n h e = e ∙ ap (λ (x : Number). x.next) (read_there s p n h)
+skip_there s p n h e = e ∙ ap (λ (x : Read ℕ). x.next) (read_there s p n h)
 
 -- m bits and then n, which w has side by side, behind a place
 module _ (s : List ℕ) (p : Place) (m n w : ℕ) (room : position s p + (m + n) ≤ bit_count s) (e : w ≡ bits_at s (position s p) (m + n)) where
@@ -53,6 +53,6 @@ shifted_bits s i u n t {w} h e =
     shift_field w u n t h ∙ ap (λ (z : ℕ). z / 2 ^ (t - (u + n)) % 2 ^ n) e ∙ window s i u n (t - (u + n)) t (omega arith)
 
 -- a flag, from its bit
-pub flag_read : (s : List ℕ) (p : Place) {r : Number} → get_bits s p (pos 1) ≡ r → get_flag s p ≡ record { value = eqb r.value 1; next = r.next }
+pub flag_read : (s : List ℕ) (p : Place) {r : Read ℕ} → get_bits s p (pos 1) ≡ r → get_flag s p ≡ record { value = eqb r.value 1; next = r.next }
 unfolding get_flag get_bit
 flag_read s p e = rw (width_in s p 1 (omega arith) ∙ e)

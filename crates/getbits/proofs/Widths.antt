@@ -15,7 +15,7 @@ use mir.Val.{Fits, SFits, to_z, of_z}
 use mir.Facts.{to_z-of_z}
 use Rattle.getbits.specs.Bits.{refused, get_bits, signed_of}
 use Rattle.getbits.specs.declared.Place.{Place}
-use Rattle.getbits.specs.declared.Number.{Number}
+use Rattle.getbits.specs.declared.Read.{Read}
 use Rattle.getbits.proofs.Places.{lt_or_le}
 use Rattle.getbits.proofs.Callers.{width_over, as_read, read_none, read_lt}
 use mathlib.Core.Logic.{⊎_elim}
@@ -35,14 +35,14 @@ width_negative s p (pos n) h = absurd (not-suc-le-zero (ltb-true n 0 h))
 width_negative s p (negsuc n) h = refl
 
 -- an answer other than 0 came from a width of 1 to 32, and is below 2 ^ width
-pub bits_known : (s : List ℕ) (p : Place) (z : ℤ) (r : Number) → r ≡ get_bits s p z → (r.value ≡ 0 → ⊥)
+pub bits_known : (s : List ℕ) (p : Place) (z : ℤ) (r : Read ℕ) → r ≡ get_bits s p z → (r.value ≡ 0 → ⊥)
     → T (non_neg z) × (1 ≤ nat_abs z) × (nat_abs z ≤ 32) × (r.value < 2 ^ nat_abs z)
-bits_known s p (pos zero) r e h = absurd (h (ap (λ (x : Number). x.value) (as_read s p 0 (omega arith) e ∙ read_none s p)))
+bits_known s p (pos zero) r e h = absurd (h (ap (λ (x : Read ℕ). x.value) (as_read s p 0 (omega arith) e ∙ read_none s p)))
 bits_known s p (pos (suc n)) r e h =
-    ⊎_elim (λ k. absurd (h (ap (λ (x : Number). x.value) (e ∙ sym (width_over s p (suc n) k)))))
+    ⊎_elim (λ k. absurd (h (ap (λ (x : Read ℕ). x.value) (e ∙ sym (width_over s p (suc n) k)))))
     (λ k. (tt, omega arith, k, rw (as_read s p (suc n) k e) (read_lt s p (suc n))))
     (lt_or_le 32 (suc n))
-bits_known s p (negsuc n) r e h = absurd (h (ap (λ (x : Number). x.value) (e ∙ sym (width_negative s p (negsuc n) refl))))
+bits_known s p (negsuc n) r e h = absurd (h (ap (λ (x : Read ℕ). x.value) (e ∙ sym (width_negative s p (negsuc n) refl))))
 
 -- a signed number that a call returned, read back from its bits
 pub back : (z : ℤ) → mag z < 2 ^ 31 → to_z w32 (of_z w32 z) ≡ z

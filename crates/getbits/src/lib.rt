@@ -16,22 +16,10 @@ pub struct Place {
     pub error: bool,
 }
 
-// A reading's answer, and the place after it.
+// What was read, and the place after it.
 #[derive(Clone, Copy)]
-pub struct Number {
-    pub value: u32,
-    pub next: Place,
-}
-
-#[derive(Clone, Copy)]
-pub struct Signed {
-    pub value: i32,
-    pub next: Place,
-}
-
-#[derive(Clone, Copy)]
-pub struct Flag {
-    pub value: bool,
+pub struct Read<T> {
+    pub value: T,
     pub next: Place,
 }
 
@@ -58,10 +46,10 @@ pub fn has_error(p: Place) -> bool
 }
 
 // The answer where the bits run out.
-fn exhausted(s: &[u8]) -> Number
+fn exhausted(s: &[u8]) -> Read<u32>
     ensures { result ≡ run_out s.now }
 {
-    Number {
+    Read {
         value: 0,
         next: Place {
             byte: s.len(),
@@ -71,7 +59,7 @@ fn exhausted(s: &[u8]) -> Number
     }
 }
 
-pub fn get_bit(s: &[u8], p: Place) -> Number
+pub fn get_bit(s: &[u8], p: Place) -> Read<u32>
     ensures { result ≡ get_bit s.now p }
 {
     let byte = p.byte;
@@ -84,7 +72,7 @@ pub fn get_bit(s: &[u8], p: Place) -> Number
     }
     let b = s[byte] as u32;
     let stop = used + 1;
-    Number {
+    Read {
         value: (b >> (7 - used)) % 2,
         next: Place {
             byte: byte + (stop / 8) as usize,
@@ -95,11 +83,11 @@ pub fn get_bit(s: &[u8], p: Place) -> Number
 }
 
 // The answer to a wrong argument.
-pub fn refuse(s: &[u8], p: Place) -> Number
+pub fn refuse(s: &[u8], p: Place) -> Read<u32>
     ensures { result ≡ refused s.now p }
 {
     let q = settle(s, p);
-    Number {
+    Read {
         value: 0,
         next: Place {
             byte: q.byte,
@@ -110,7 +98,7 @@ pub fn refuse(s: &[u8], p: Place) -> Number
 }
 
 // get_bits for a width that has no sign. Its bits come from `peek`, so that it stays small.
-pub fn read_wide(s: &[u8], p: Place, n: u32) -> Number
+pub fn read_wide(s: &[u8], p: Place, n: u32) -> Read<u32>
     ensures { result ≡ get_bits s.now p (pos n) }
 {
     if 32 < n {
@@ -123,7 +111,7 @@ pub fn read_wide(s: &[u8], p: Place, n: u32) -> Number
     if s.len() - byte < ((stop + 7) / 8) as usize {
         return exhausted(s);
     }
-    Number {
+    Read {
         value: peek(s, byte, used, n),
         next: Place {
             byte: byte + (stop / 8) as usize,
@@ -135,14 +123,14 @@ pub fn read_wide(s: &[u8], p: Place, n: u32) -> Number
 
 // The same. Where four bytes are left, they hold up to 25 bits, and nothing else is asked: it is inlined in its callers, and so keeps a place out
 // of memory.
-pub fn read_bits(s: &[u8], p: Place, n: u32) -> Number
+pub fn read_bits(s: &[u8], p: Place, n: u32) -> Read<u32>
     ensures { result ≡ get_bits s.now p (pos n) }
 {
     let byte = p.byte;
     let used = p.used;
     if n <= 25 && used < 8 && 4 <= s.len() && byte <= s.len() - 4 {
         let stop = used + n;
-        return Number {
+        return Read {
             value: narrow(s, byte, used, n),
             next: Place {
                 byte: byte + (stop / 8) as usize,
@@ -215,7 +203,7 @@ pub fn skip(s: &[u8], p: Place, n: u32) -> Place
     r.next
 }
 
-pub fn get_bits(s: &[u8], p: Place, n: i32) -> Number
+pub fn get_bits(s: &[u8], p: Place, n: i32) -> Read<u32>
     ensures { result ≡ get_bits s.now p n }
 {
     if n < 0 {
@@ -251,15 +239,15 @@ fn below_zero(x: u32) -> i32
     -1 - x as i32
 }
 
-pub fn get_sbits(s: &[u8], p: Place, n: i32) -> Signed
+pub fn get_sbits(s: &[u8], p: Place, n: i32) -> Read<i32>
     ensures { result ≡ get_sbits s.now p n }
 {
     let r = get_bits(s, p, n);
     let next = r.next;
     if r.value == 0 {
-        return Signed { value: 0, next };
+        return Read { value: 0, next };
     }
-    Signed {
+    Read {
         value: sign(r.value, n as u32),
         next,
     }
@@ -296,36 +284,35 @@ pub fn bytealign(s: &[u8], p: Place) -> Place
 }
 
 // n bits under a condition: else 0, and the place as it was.
-pub fn bits_if(s: &[u8], p: Place, n: i32, cond: bool) -> Number
+pub fn bits_if(s: &[u8], p: Place, n: i32, cond: bool) -> Read<u32>
     ensures { result ≡ bits_if cond s.now p n }
 {
     if cond {
         get_bits(s, p, n)
     } else {
-        Number { value: 0, next: p }
+        Read { value: 0, next: p }
     }
 }
 
 // A bit as a flag.
-pub fn get_flag(s: &[u8], p: Place) -> Flag
+pub fn get_flag(s: &[u8], p: Place) -> Read<bool>
     ensures { result ≡ get_flag s.now p }
 {
     let b = get_bit(s, p);
-    let next = b.next;
-    Flag {
+    Read {
         value: b.value == 1,
-        next,
+        next: b.next,
     }
 }
 
 // A flag under a condition: else false, and the place as it was.
-pub fn flag_if(s: &[u8], p: Place, cond: bool) -> Flag
+pub fn flag_if(s: &[u8], p: Place, cond: bool) -> Read<bool>
     ensures { result ≡ flag_if cond s.now p }
 {
     if cond {
         get_flag(s, p)
     } else {
-        Flag {
+        Read {
             value: false,
             next: p,
         }

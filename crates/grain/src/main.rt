@@ -1,20 +1,20 @@
 // Reads a pixel layout's number and film grain parameters from standard input, and prints the parameters.
 #![tactic(auto)]
 
-ghost use Rattle.std.specs.Prelude.{◌≡◌, take};
-ghost use Rattle.program.specs.Input.{IsPrefixLen};
-ghost use Rattle.text.specs.Text.{Put};
+ghost use Rattle.std.specs.Prelude.{◌≡◌, ◌≤◌, length};
+ghost use Rattle.text.specs.Text.{put};
 ghost use Rattle.grain.specs.Print.{grain_text, grain_accepted_text, grain_read_text, grain_input_text};
 ghost use Rattle.grain.specs.Request.{is_grain_request, grain_request};
 
 use answers::{Answer, is_refusal, number};
 use film_grain::{FilmGrainData, FilmGrainRead, no_film_grain, parse_film_grain_data};
+use flat::put_row;
 use flat_grain::put_film_grain;
 use getbits::Place;
 use program::{put_ok, put_refusal, read_full, report_written};
 use seq_fields::layout_of;
 use std::io;
-use text::put_filled;
+use text::Text;
 
 fn is_request(s: &[u8]) -> bool
     ensures { result ≡ is_grain_request s.now }
@@ -50,24 +50,19 @@ fn widened(xs: [i16; 186]) -> [i64; 186]
     ensures { result ≡ xs }
 {
     let mut wide = [0i64; 186];
-    let mut i: usize = 0;
-    while i < 186 {
-        wide[i] = xs[i] as i64;
-        i += 1;
-    }
+    put_row(&mut wide, 0, &xs);
     wide
 }
 
 // The fields in the order of declaration: a name and its values.
-fn put_grain(out: &mut [u8], at: usize, fgd: FilmGrainData) -> usize
-    ensures { Put 12117 out.old at (grain_text fgd) out.new result }
+fn put_grain<const N: usize>(out: &mut Text<N>, fgd: FilmGrainData)
+    ensures text { out.new ≡ put N out.old (grain_text fgd) }
+    ensures size { length (grain_text fgd) ≤ 12117 }
 {
     let mut flat = [0i16; 186];
     put_film_grain(fgd, &mut flat);
     let xs = widened(flat);
-    put_filled(
-        out,
-        at,
+    out.push_filled(
         b"chroma_scaling_from_luma #\n\
           num_points # # #\n\
           points\
@@ -91,41 +86,44 @@ fn put_grain(out: &mut [u8], at: usize, fgd: FilmGrainData) -> usize
           block_size #\n",
         &xs,
         0,
-    )
+    );
 }
 
-fn put_grain_accepted(out: &mut [u8], fgd: FilmGrainData, next: Place) -> usize
-    ensures { Put 12162 out.old 0 (grain_accepted_text fgd next) out.new result }
+#[tactic(auto, using(text::proofs::Puts::puts), unfolding(crate::specs::Print::grain_accepted_text))]
+fn put_grain_accepted<const N: usize>(out: &mut Text<N>, fgd: FilmGrainData, next: Place)
+    ensures text { out.new ≡ put N out.old (grain_accepted_text fgd next) }
+    ensures size { length (grain_accepted_text fgd next) ≤ 12162 }
 {
-    let head = put_ok(out, next);
-    put_grain(out, head, fgd)
+    put_ok(out, next);
+    put_grain(out, fgd);
 }
 
-fn put_read(out: &mut [u8], r: FilmGrainRead) -> usize
-    ensures { Put 12162 out.old 0 (grain_read_text r) out.new result }
+#[tactic(auto, unfolding(crate::specs::Print::grain_read_text))]
+fn put_read<const N: usize>(out: &mut Text<N>, r: &FilmGrainRead)
+    ensures text { out.new ≡ put N out.old (grain_read_text r.now) }
+    ensures size { length (grain_read_text r.now) ≤ 12162 }
 {
-    let answer = r.answer;
-    let next = r.next;
-    if is_refusal(answer) {
-        return put_refusal(out, number(answer), next);
+    if is_refusal(r.answer) {
+        put_refusal(out, number(r.answer), r.next);
+    } else {
+        put_grain_accepted(out, r.fgd, r.next);
     }
-    let fgd = r.fgd;
-    put_grain_accepted(out, fgd, next)
 }
 
 // From the input's bytes to the output's.
-fn grain_text(input: &[u8], out: &mut [u8; 12162]) -> usize
-    ensures prefix_len { IsPrefixLen result out.new }
-    ensures out_after { take result out.new ≡ grain_input_text input.now }
+#[tactic(auto, using(text::proofs::Puts::put_fits), unfolding(crate::specs::Print::grain_input_text))]
+fn grain_text(input: &[u8]) -> Text<12162>
+    ensures { result ≡ grain_input_text input.now }
 {
-    put_read(out, request(input))
+    let mut out = Text::new();
+    put_read(&mut out, &request(input));
+    out
 }
 
 fn main(rt: HostRuntime) -> io::Result<()> {
     let mut input = [0u8; 65537];
     let n = read_full(&mut rt.reader(), &mut input)?;
-    let mut out = [0u8; 12162];
-    let k = grain_text(&input[..n], &mut out);
-    report_written(&rt, rt.write_all(&out[..k]).is_ok());
+    let out = grain_text(&input[..n]);
+    report_written(&rt, rt.write_all(out.as_slice()).is_ok());
     Ok(())
 }

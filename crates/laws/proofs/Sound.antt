@@ -10,9 +10,7 @@ use lib.IntN.{ℤ, pos, negsuc, nat_abs, ◌+ℤ◌, ◌-ℤ◌}
 use Rattle.getbits.specs.Chain.{pick, then}
 use Rattle.getbits.specs.Bits.{bits_at, position, place_at, settled, refused, read_bits, get_bit, get_bits, signed_of, get_sbits, get_flag, flag_if, bits_if}
 use Rattle.getbits.specs.declared.Place.{Place}
-use Rattle.getbits.specs.declared.Number.{Number}
-use Rattle.getbits.specs.declared.Signed.{Signed}
-use Rattle.getbits.specs.declared.Flag.{Flag}
+use Rattle.getbits.specs.declared.Read.{Read}
 use Rattle.getbits.proofs.Places.{pos_le, pos_at}
 use Rattle.getbits.proofs.Callers.{read_pos, read_error, read_clean, read_there, bits_local}
 use Rattle.codes.specs.Codes.{plus, run_of, get_vlc, bit_length, get_uniform, get_ref_uniform, failed, uleb_from, get_uleb128, get_golomb, subexp_from, inv_recenter, subexp_args, get_bits_subexp_u, subexp_range, get_bits_subexp, vlc_if, uniform_if}
@@ -27,7 +25,7 @@ clean false k e = refl
 part : {s t : List ℕ} {i j : ℕ} (k l : ℕ) → Agree s t i j → i ≤ k → l ≤ j → Agree s t k l
 part k l a h g = record { there = le_trans g a.there; same = λ m u v. a.same m (le_trans h u) (omega arith) }
 
-abbrev next : Number → Place
+abbrev next : Read ℕ → Place
 next r = r.next
 
 -- ---- leaves
@@ -146,19 +144,19 @@ unfolding get_bits
 sound_get_bits (pos n) = sound_pick (leb n 32) (sound_bits n) sound_refused
 sound_get_bits (negsuc n) = sound_refused
 
-pub sound_get_sbits : (n : ℤ) → Sound (λ (r : Signed). r.next) (λ s p. get_sbits s p n)
+pub sound_get_sbits : (n : ℤ) → Sound (λ (r : Read ℤ). r.next) (λ s p. get_sbits s p n)
 unfolding get_sbits
 sound_get_sbits n =
-    sound_map next (λ (r : Signed). r.next) (λ s p. get_bits s p n) (λ r. record { value = signed_of (nat_abs n) r.value; next = r.next }) (λ r. refl) (sound_get_bits n)
+    sound_map next (λ (r : Read ℤ). r.next) (λ s p. get_bits s p n) (λ r. record { value = signed_of (nat_abs n) r.value; next = r.next }) (λ r. refl) (sound_get_bits n)
 
-pub sound_get_flag : Sound (λ (r : Flag). r.next) get_flag
+pub sound_get_flag : Sound (λ (r : Read Bool). r.next) get_flag
 unfolding get_flag
-sound_get_flag = sound_map next (λ (r : Flag). r.next) get_bit (λ r. record { value = eqb r.value 1; next = r.next }) (λ r. refl) sound_get_bit
+sound_get_flag = sound_map next (λ (r : Read Bool). r.next) get_bit (λ r. record { value = eqb r.value 1; next = r.next }) (λ r. refl) sound_get_bit
 
-pub sound_flag_if : (cond : Bool) → Sound (λ (r : Flag). r.next) (flag_if cond)
+pub sound_flag_if : (cond : Bool) → Sound (λ (r : Read Bool). r.next) (flag_if cond)
 unfolding flag_if
 sound_flag_if true = sound_get_flag
-sound_flag_if false = sound_here (λ (r : Flag). r.next) (λ p. record { value = false; next = p }) (λ p. refl)
+sound_flag_if false = sound_here (λ (r : Read Bool). r.next) (λ p. record { value = false; next = p }) (λ p. refl)
 
 -- the answer v, at the place reached
 sound_answer : (v : ℕ) → Sound next (λ s p. record { value = v; next = p })
@@ -172,11 +170,11 @@ sound_bits_if false n = sound_answer 0
 -- ---- the operations of variable length
 
 -- m and what is read
-sound_plus : (m : ℕ) {f : List ℕ → Place → Number} → Sound next f → Sound next (λ s p. plus m (f s p))
+sound_plus : (m : ℕ) {f : List ℕ → Place → Read ℕ} → Sound next f → Sound next (λ s p. plus m (f s p))
 sound_plus m {f} F = sound_map next next f (plus m) (λ r. refl) F
 
 -- a reading, and what follows it
-sound_after : {f : List ℕ → Place → Number} {g : Number → List ℕ → Place → Number} → Sound next f → ((r : Number) → Sound next (g r)) → Sound next (λ s p. then (f s p) λ r. g r s r.next)
+sound_after : {f : List ℕ → Place → Read ℕ} {g : Read ℕ → List ℕ → Place → Read ℕ} → Sound next f → ((r : Read ℕ) → Sound next (g r)) → Sound next (λ s p. then (f s p) λ r. g r s r.next)
 sound_after {f} {g} F G = sound_then next next f g F G
 
 pub sound_run : (bit k : ℕ) → Sound next (run_of bit k)
@@ -244,14 +242,14 @@ sound_subexp_u ref n k =
     (sound_subexp 33 n (nat_abs k) 0 0))
     sound_refused
 
-pub sound_subexp_signed : (ref : ℤ) (n : ℕ) → Sound (λ (r : Signed). r.next) (λ s p. get_bits_subexp s p ref n)
+pub sound_subexp_signed : (ref : ℤ) (n : ℕ) → Sound (λ (r : Read ℤ). r.next) (λ s p. get_bits_subexp s p ref n)
 unfolding get_bits_subexp then
 sound_subexp_signed ref n =
     let x = ref +ℤ pos (n - 1) in
     sound_pick (subexp_range n x)
-    (sound_map next (λ (r : Signed). r.next) (λ s p. get_bits_subexp_u s p (nat_abs x) (2 * n - 1) (pos 3)) (λ r. record { value = pos r.value -ℤ pos (n - 1); next = r.next }) (λ r. refl)
+    (sound_map next (λ (r : Read ℤ). r.next) (λ s p. get_bits_subexp_u s p (nat_abs x) (2 * n - 1) (pos 3)) (λ r. record { value = pos r.value -ℤ pos (n - 1); next = r.next }) (λ r. refl)
     (sound_subexp_u (nat_abs x) (2 * n - 1) (pos 3)))
-    (sound_map next (λ (r : Signed). r.next) (λ s p. refused s p) (λ r. record { value = pos 0; next = r.next }) (λ r. refl) sound_refused)
+    (sound_map next (λ (r : Read ℤ). r.next) (λ s p. refused s p) (λ r. record { value = pos 0; next = r.next }) (λ r. refl) sound_refused)
 
 pub sound_vlc_if : (cond : Bool) → Sound next (vlc_if cond)
 unfolding vlc_if

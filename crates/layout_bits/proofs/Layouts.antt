@@ -8,7 +8,7 @@ use borrow.Author.Tests.{ltb-false, le-ltb, eqb-true, eqb-false, eq-eqb, ne_eqb}
 use lib.Dec.{T, ltb, eqb}
 use Rattle.getbits.specs.Bits.{position, get_bit, get_flag}
 use Rattle.getbits.specs.Chain.{pick, then}
-use Rattle.getbits.specs.declared.Number.{Number}
+use Rattle.getbits.specs.declared.Read.{Read}
 use Rattle.getbits.specs.declared.Place.{Place}
 use Rattle.getbits.proofs.Callers.{bit_lt}
 use Rattle.getbits.proofs.Chain.{picked}
@@ -125,7 +125,7 @@ unfolding layout_bits uniform_info
 logs_are a c r = refl
 
 module _ (s : List ℕ) (p : Place) (old : TileInfo) (a : TileArgs) where
-  abbrev flag : Number
+  abbrev flag : Read ℕ
   flag = get_bit s p
 
   flagged : {b : ℕ} {q : Place} (rest : List ℕ) → flag.value ≡ b → q.error ≡ false → Used s flag.next q rest → Used s p q (b ∷ rest)

@@ -12,7 +12,7 @@ use lib.ListN.{length, length-append}
 use Rattle.getbits.specs.Bits.{bit_at, bits_at, bit_count, position, settled, read_bits, get_bit}
 use Rattle.getbits.specs.Chain.{then}
 use Rattle.getbits.specs.declared.Place.{Place}
-use Rattle.getbits.specs.declared.Number.{Number}
+use Rattle.getbits.specs.declared.Read.{Read}
 use Rattle.getbits.proofs.Places.{lt_or_le, pos_le, pos_at}
 use Rattle.getbits.proofs.Callers.{read_there, read_clean, read_lt, bit_lt}
 use Rattle.codes.specs.Codes.{plus, run_of, bit_length, get_uniform}
@@ -23,10 +23,10 @@ use Rattle.layout_bits.specs.Bits.{bits_of, shorter, uniform_code, ones_code, lo
 use Rattle.layout_bits.specs.Readable.{InLog}
 use Rattle.layout_bits.proofs.Rows.{split, join, single, none, behind, on}
 
-abbrev value : Number → ℕ
+abbrev value : Read ℕ → ℕ
 value r = r.value
 
-abbrev next : Number → Place
+abbrev next : Read ℕ → Place
 next r = r.next
 
 -- ---- a given width
@@ -87,10 +87,10 @@ module _ (s : List ℕ) (p : Place) (max : ℕ) where
   few h = rw (le-leb max 1 h)
 
   module _ (lo : 1 < max) (hi : max < 2 ^ 31) where
-    abbrev head : Number
+    abbrev head : Read ℕ
     head = read_bits s p (bit_length max - 1)
 
-    abbrev last : Number
+    abbrev last : Read ℕ
     last = get_bit s head.next
 
     short : head.value < shorter max → get_uniform s p max ≡ head
@@ -191,7 +191,7 @@ unfolding ones_code
 ones_more k n = rw (leb-suc-suc (suc n) k)
 
 module _ (k : ℕ) (s : List ℕ) (p : Place) where
-  abbrev bit : Number
+  abbrev bit : Read ℕ
   bit = get_bit s p
 
   run_one : bit.value ≡ 1 → run_of 1 (suc k) s p ≡ plus 1 (run_of 1 k s bit.next)

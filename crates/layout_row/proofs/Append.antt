@@ -119,22 +119,21 @@ one_more bytes at bit v h b e =
 
 -- ---- the bits of a number, from the most significant on
 
-pub digits_none : (n v : ℕ) → bits_of (n - n) v ≡ []
+pub digits_none : (v : ℕ) → bits_of 0 v ≡ []
 unfolding bits_of
-digits_none n v =
-    let e : n - n ≡ 0 = omega arith in
-    rw e refl
+digits_none v = refl
 
-pub digits_more : (n v k : ℕ) → 1 ≤ k → k ≤ n → bits_of (n - (k - 1)) (v / 2 ^ (k - 1)) ≡ bits_of (n - k) (v / 2 ^ k) ++ (v / 2 ^ (k - 1) % 2 ∷ [])
+pub digits_more : (n v i : ℕ) → i < n → bits_of (i + 1) (v / 2 ^ (n - (i + 1))) ≡ bits_of i (v / 2 ^ (n - i)) ++ (v / 2 ^ (n - 1 - i) % 2 ∷ [])
 unfolding bits_of
-digits_more n v k lo hi =
-    let e : n - (k - 1) ≡ suc (n - k) = omega arith in
-    let f : 2 ^ (k - 1) * 2 ≡ 2 ^ k = sym (pow-suc 2 (k - 1)) ∙ ap (λ (x : ℕ). 2 ^ x) (omega arith) in
-    rw (e, div-div-eq-div-mul v (2 ^ (k - 1)) 2, f) refl
+digits_more n v i h =
+    let e : i + 1 ≡ suc i = omega arith in
+    let d : n - (i + 1) ≡ n - 1 - i = omega arith in
+    let f : 2 ^ (n - 1 - i) * 2 ≡ 2 ^ (n - i) = sym (pow-suc 2 (n - 1 - i)) ∙ ap (λ (x : ℕ). 2 ^ x) (omega arith) in
+    rw (d, e, div-div-eq-div-mul v (2 ^ (n - 1 - i)) 2, f) refl
 
-pub digits_all : (n v : ℕ) → bits_of (n - 0) (v / 2 ^ 0) ≡ bits_of n v
+pub digits_all : (n v : ℕ) → bits_of n (v / 2 ^ (n - n)) ≡ bits_of n v
 digits_all n v =
-    let e : n - 0 ≡ n = omega arith in
+    let e : n - n ≡ 0 = omega arith in
     rw (e, div-one v) refl
 
 -- ---- a run of ones

@@ -46,10 +46,8 @@ fn put_bits(row: &mut [u8; 177], at: u32, n: u32, v: u32) -> u32
     ensures { Appended row.old at (bits_of n v) row.new result }
 {
     let mut end = at;
-    let mut left = n;
-    while 0 < left {
-        left -= 1;
-        end = put_bit(row, end, (v >> left) % 2);
+    for i in 0..n {
+        end = put_bit(row, end, (v >> (n - 1 - i)) % 2);
     }
     end
 }
@@ -82,10 +80,8 @@ fn put_ones(row: &mut [u8; 177], at: u32, most: u8, n: u8) -> u32
     ensures { Appended row.old at (ones_code most n) row.new result × (result ≤ at + 256) }
 {
     let mut end = at;
-    let mut i: u8 = 0;
-    while i < n {
+    for _i in 0..n {
         end = put_bit(row, end, 1);
-        i += 1;
     }
     if n < most {
         return put_bit(row, end, 0);
@@ -93,18 +89,16 @@ fn put_ones(row: &mut [u8; 177], at: u32, most: u8, n: u8) -> u32
     end
 }
 
-// a - b, or 0 where b is larger.
-fn usub(a: u8, b: u8) -> u8
-    ensures { result ≡ a - b }
-{
-    if a < b { 0 } else { a - b }
-}
-
 fn put_log2(row: &mut [u8; 177], at: u32, least: u8, most: u8, log2: u8) -> u32
     requires { at + 256 ≤ 1416 }
     ensures { Appended row.old at (log_code least most log2) row.new result × (result ≤ at + 256) }
 {
-    put_ones(row, at, usub(most, least), usub(log2, least))
+    put_ones(
+        row,
+        at,
+        most.saturating_sub(least),
+        log2.saturating_sub(least),
+    )
 }
 
 fn put_logs(row: &mut [u8; 177], at: u32, t: TileInfo) -> u32
@@ -120,16 +114,13 @@ fn put_sizes(row: &mut [u8; 177], at: u32, starts: &[u16], tiles: u8, bounds: Si
     requires { (at + 11 * tiles ≤ 1416) × (bounds.total.0 ≤ 1024) }
     ensures { Appended row.old at (sizes_code bounds.total.0 bounds.limit.0 (tabulate (size_at starts.now) 0 tiles)) row.new result × (result ≤ at + 11 * tiles) }
 {
-    let limit = bounds.limit;
     let mut rest = bounds.total;
     let mut end = at;
-    let mut i: u8 = 0;
-    while i < tiles {
+    for i in 0..tiles {
         let size = size_at(starts, i);
-        let z = size_number(size, rest, limit);
+        let z = size_number(size, rest, bounds.limit);
         end = put_uniform(row, end, z.max, z.value);
         rest = rest.minus(size);
-        i += 1;
     }
     end
 }
@@ -139,10 +130,8 @@ fn widest_of(starts: &[u16], tiles: u8) -> FrameSb
     ensures { result.0 ≡ widest (tabulate (size_at starts.now) 0 tiles) }
 {
     let mut most = FrameSb::none();
-    let mut i: u8 = 0;
-    while i < tiles {
+    for i in 0..tiles {
         most = most.most(size_at(starts, i));
-        i += 1;
     }
     most
 }
@@ -151,11 +140,15 @@ fn put_sides(row: &mut [u8; 177], at: u32, a: TileArgs, t: TileInfo) -> u32
     requires { (at ≤ 1) × (in_domain a ≡ true) × (t.cols ≤ 64) × (t.rows ≤ 64) }
     ensures { Appended row.old at (sides_code a (col_sizes t) (row_sizes t)) row.new result }
 {
-    let cols = t.col_start_sb;
-    let rows = t.row_start_sb;
-    let end = put_sizes(row, at, &cols, t.cols, col_bounds(a));
-    let widest_tile = widest_of(&cols, t.cols);
-    put_sizes(row, end, &rows, t.rows, row_bounds(a, widest_tile))
+    let end = put_sizes(row, at, &t.col_start_sb, t.cols, col_bounds(a));
+    let widest_tile = widest_of(&t.col_start_sb, t.cols);
+    put_sizes(
+        row,
+        end,
+        &t.row_start_sb,
+        t.rows,
+        row_bounds(a, widest_tile),
+    )
 }
 
 // The flag, then the logarithms or the sizes.

@@ -2,11 +2,9 @@
 use mathlib.Core.Bool.{Bool, true, false, not, ◌&&◌}
 use mathlib.Core.List.{List, [], ◌∷◌}
 use mathlib.Core.Path.{◌≡◌, refl, sym, subst, ap, ap₂}
-use Prim.Native.Nat.{ℕ, ◌<◌}
+use Prim.Native.Nat.{ℕ}
 use borrow.Author.Tests.{eqb-true, eq-eqb, not-true}
 use lib.Dec.{T, eqb}
-use lib.ListN.{length, get_or}
-use lib.Seq.{ext_get_or}
 use Rattle.answers.specs.Numbers.{is_refusal}
 use Rattle.getbits.proofs.Chain.{both, both_hold}
 use Rattle.tile_layout.specs.declared.TileInfo.{TileInfo}
@@ -38,16 +36,6 @@ list_self : (xs : List ℕ) → same_list xs xs ≡ true
 unfolding same_list
 list_self [] = refl
 list_self (x ∷ xs) = both_hold (eq-eqb x x refl) (list_self xs)
-
-pub list_same : {xs ys : List ℕ} → xs ≡ ys → same_list xs ys ≡ true
-list_same {xs} e = rw (← e) (list_self xs)
-
-module _ (xs ys : List ℕ) where
-  pub starts_differ : (k : ℕ) → (get_or xs k 0 ≡ get_or ys k 0 → ⊥) → same_list xs ys ≡ false
-  starts_differ k differ = not_so (same_list xs ys) (λ e. differ (ap (λ (l : List ℕ). get_or l k 0) (list_only xs ys e)))
-
-  pub starts_same : length xs ≡ length ys → ((k : ℕ) → k < length xs → get_or xs k 0 ≡ get_or ys k 0) → same_list xs ys ≡ true
-  starts_same l f = list_same (ext_get_or 0 xs ys l f)
 
 layout_self : (t : TileInfo) → same_layout t t ≡ true
 unfolding same_numbers same_layout

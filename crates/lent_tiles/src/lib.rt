@@ -29,14 +29,12 @@ pub fn frame_given(
 ) -> FrameHeader
     ensures { result ≡ frame_given frame_type width height sb128 (buffers info.now cols.now rows.now) }
 {
-    let frame_type = frame_type_of(frame_type);
-    let tiling = tile_info_of(info, cols, rows);
     FrameHeader {
-        frame_type,
+        frame_type: frame_type_of(frame_type),
         width,
         height,
         sb128,
-        tiling,
+        tiling: tile_info_of(info, cols, rows),
     }
 }
 
@@ -53,16 +51,14 @@ pub fn seq_given(
 ) -> SeqLayout
     ensures { result ≡ seq_given sb128 max_width max_height level tier present (buffers info.now cols.now rows.now) }
 {
-    let present = present_of(present);
-    let t = tile_info_of(info, cols, rows);
     SeqLayout {
         sb128,
         max_width,
         max_height,
         level,
         tier,
-        present,
-        t,
+        present: present_of(present),
+        t: tile_info_of(info, cols, rows),
     }
 }
 
@@ -75,17 +71,16 @@ pub fn hand_back_tiles(
     cols: &mut [u16],
     rows: &mut [u16],
 ) -> u32
-    ensures after_after { let before = buffers info.old cols.old rows.old in
+    ensures outcome { let before = buffers info.old cols.old rows.old in
         let after = buffers info.new cols.new rows.new in
         ((result ∷ position.new ∷ error.new ∷ []), after) ≡ handed_tiles r error.old before }
-    ensures fact { let before = buffers info.old cols.old rows.old in
+    ensures layout_put { let before = buffers info.old cols.old rows.old in
         let after = buffers info.new cols.new rows.new in
         (has_room before ≡ true → is_refusal r.answer ≡ false → layout_in after ≡ r.info) }
 {
-    let answer = r.answer;
     put_place(r.next, &mut *position, &mut *error);
-    if is_refusal(answer) {
-        return number(answer);
+    if is_refusal(r.answer) {
+        return number(r.answer);
     }
     put_tile_info(r.info, &mut *info, &mut *cols, &mut *rows);
     0
@@ -101,11 +96,11 @@ pub fn hand_back_frame(
     cols: &mut [u16],
     rows: &mut [u16],
 ) -> u32
-    ensures after_after { let before = buffers info.old cols.old rows.old in
+    ensures outcome { let before = buffers info.old cols.old rows.old in
         let after = buffers info.new cols.new rows.new in
         ((result ∷ position.new ∷ error.new ∷ []), sb128.new, after)
         ≡ handed_frame r error.old sb128.old before }
-    ensures fact { let before = buffers info.old cols.old rows.old in
+    ensures layout_put { let before = buffers info.old cols.old rows.old in
         let after = buffers info.new cols.new rows.new in
         (has_room before ≡ true → is_refusal r.answer ≡ false → layout_in after ≡ r.hdr.tiling) }
 {

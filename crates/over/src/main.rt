@@ -1,13 +1,13 @@
 // Reads a layout's record, a request and tiling bits from standard input, and prints the whole layout that is read over that record.
 #![tactic(auto)]
 
-ghost use Rattle.std.specs.Prelude.{◌≡◌, take};
-ghost use Rattle.program.specs.Input.{IsPrefixLen};
+ghost use Rattle.std.specs.Prelude.{◌≡◌};
 ghost use Rattle.over.specs.Print.{over_request, over_text};
 
 use answers::{is_refusal, number};
 use program::{byte_at, put_refused, read_full, report_written};
 use std::io;
+use text::Text;
 use tile_layout::TileRead;
 use tile_request::{given_layout, put_whole_layout, request_over};
 
@@ -23,25 +23,24 @@ fn over_request(s: &[u8]) -> TileRead
 }
 
 // From the input's bytes to the output's.
-fn over_text(input: &[u8], out: &mut [u8; 2969]) -> usize
-    ensures prefix_len { IsPrefixLen result out.new }
-    ensures out_after { take result out.new ≡ over_text input.now }
+#[tactic(auto, using(text::proofs::Puts::put_fits), unfolding(crate::specs::Print::over_text, getbits::specs::Chain::then))]
+fn over_text(input: &[u8]) -> Text<2969>
+    ensures { result ≡ over_text input.now }
 {
     let r = over_request(input);
-    let answer = r.answer;
-    if is_refusal(answer) {
-        return put_refused(out, 0, number(answer));
+    let mut out = Text::new();
+    if is_refusal(r.answer) {
+        put_refused(&mut out, number(r.answer));
+    } else {
+        put_whole_layout(&mut out, &r.info, r.next, byte_at(input, 273));
     }
-    let info = r.info;
-    let next = r.next;
-    put_whole_layout(out, info, next, byte_at(input, 273))
+    out
 }
 
 fn main(rt: HostRuntime) -> io::Result<()> {
     let mut input = [0u8; 65806];
     let n = read_full(&mut rt.reader(), &mut input)?;
-    let mut out = [0u8; 2969];
-    let k = over_text(&input[..n], &mut out);
-    report_written(&rt, rt.write_all(&out[..k]).is_ok());
+    let out = over_text(&input[..n]);
+    report_written(&rt, rt.write_all(out.as_slice()).is_ok());
     Ok(())
 }

@@ -1,8 +1,9 @@
 // What the programs share: numbers in their input, its limit, lines that they print alike, and what is said where the output can't be written.
 #![tactic(auto)]
 
-ghost use Rattle.std.specs.Prelude.{◌≡◌, ◌+◌, ◌*◌, ◌<◌, length, IfOk};
-ghost use Rattle.text.specs.Text.{Put};
+ghost use Rattle.std.specs.Prelude.{◌≡◌, ◌+◌, ◌*◌, ◌<◌, ◌≤◌, length, take, IfOk};
+ghost use Rattle.std.specs.Io.KnownBytes.{Consumes, IsAtEnd};
+ghost use Rattle.text.specs.Text.{put};
 ghost use Rattle.program.specs.Input.{byte_at, two_at, is_input, IsPrefixLen};
 ghost use Rattle.program.specs.Output.{accepted_text, refused_text, ok_text, refusal_text};
 
@@ -10,18 +11,12 @@ use getbits::Place;
 use lent::position_of;
 use std::io;
 use std::io::Read;
-use text::put_line;
+use text::Text;
 
 pub fn byte_at(s: &[u8], i: usize) -> u8
     ensures { result ≡ byte_at s.now i }
 {
-    if i < s.len() { s[i] } else { 0 }
-}
-
-fn u8_to_usize(x: u8) -> usize
-    ensures { (result ≡ x) × (result < 256) }
-{
-    x as usize
+    s.get(i).copied().unwrap_or(0)
 }
 
 pub fn two_at(s: &[u8], i: usize) -> usize
@@ -30,7 +25,7 @@ pub fn two_at(s: &[u8], i: usize) -> usize
     if i >= s.len() {
         return 0;
     }
-    u8_to_usize(byte_at(s, i)) + 256 * u8_to_usize(byte_at(s, i + 1))
+    usize::from(byte_at(s, i)) + 256 * usize::from(byte_at(s, i + 1))
 }
 
 pub fn is_input(s: &[u8]) -> bool
@@ -39,43 +34,54 @@ pub fn is_input(s: &[u8]) -> bool
     s.len() <= 65536
 }
 
-pub fn put_accepted(out: &mut [u8], at: usize, uniform: bool, xs: &[u64]) -> usize
-    ensures { Put (4 + (21 * length xs.now + 1)) out.old at (accepted_text uniform xs.now) out.new result }
+#[tactic(auto, unfolding(crate::specs::Output::accepted_text, text::specs::Text::word))]
+pub fn put_accepted<const N: usize>(out: &mut Text<N>, uniform: bool, xs: &[u64])
+    ensures text { out.new ≡ put N out.old (accepted_text uniform xs.now) }
+    ensures size { length (accepted_text uniform xs.now) ≤ 4 + (21 * length xs.now + 1) }
 {
-    if uniform {
-        return put_line(out, at, b"ok U", xs);
-    }
-    put_line(out, at, b"ok N", xs)
+    out.push_line(if uniform { b"ok U" } else { b"ok N" }, xs);
 }
 
-pub fn put_refused(out: &mut [u8], at: usize, n: u32) -> usize
-    ensures { Put 24 out.old at (refused_text n) out.new result }
+#[tactic(auto, unfolding(crate::specs::Output::refused_text, text::specs::Text::word))]
+pub fn put_refused<const N: usize>(out: &mut Text<N>, n: u32)
+    ensures text { out.new ≡ put N out.old (refused_text n) }
+    ensures size { length (refused_text n) ≤ 24 }
 {
-    put_line(out, at, b"no", &[n as u64])
+    out.push_line(b"no", &[u64::from(n)]);
 }
 
 // An accepted record's first line.
-pub fn put_ok(out: &mut [u8], next: Place) -> usize
-    ensures { Put 45 out.old 0 (ok_text next) out.new result }
+#[tactic(auto, unfolding(crate::specs::Output::ok_text, text::specs::Text::word))]
+pub fn put_ok<const N: usize>(out: &mut Text<N>, next: Place)
+    ensures text { out.new ≡ put N out.old (ok_text next) }
+    ensures size { length (ok_text next) ≤ 45 }
 {
-    let xs = [position_of(next) as u64, next.error as u64];
-    put_line(out, 0, b"ok", &xs)
+    let xs = [position_of(next) as u64, u64::from(next.error)];
+    out.push_line(b"ok", &xs);
 }
 
 // A refused record's line.
-pub fn put_refusal(out: &mut [u8], n: u32, next: Place) -> usize
-    ensures { Put 66 out.old 0 (refusal_text n next) out.new result }
+#[tactic(auto, unfolding(crate::specs::Output::refusal_text, text::specs::Text::word))]
+pub fn put_refusal<const N: usize>(out: &mut Text<N>, n: u32, next: Place)
+    ensures text { out.new ≡ put N out.old (refusal_text n next) }
+    ensures size { length (refusal_text n next) ≤ 66 }
 {
     if n == 4 {
-        return put_refused(out, 0, n);
+        return put_refused(out, n);
     }
-    let xs = [n as u64, position_of(next) as u64, next.error as u64];
-    put_line(out, 0, b"no", &xs)
+    let xs = [
+        u64::from(n),
+        position_of(next) as u64,
+        u64::from(next.error),
+    ];
+    out.push_line(b"no", &xs);
 }
 
 // Reads until buf is full or the input ends, and returns how many bytes it put at buf's start.
 pub fn read_full<R: Read>(input: &mut R, buf: &mut [u8]) -> io::Result<usize>
-    ensures { IfOk result (λ n. IsPrefixLen n buf.new) }
+    ensures prefix_len { IfOk result (λ n. IsPrefixLen n buf.new) }
+    ensures bytes { IfOk result (λ n. Consumes (R.remaining input.old) (R.remaining input.new) (take n buf.new)) }
+    ensures end { IfOk result (λ n. n < length buf.new → IsAtEnd (R.remaining input.new)) }
 {
     let mut done = 0;
     while done < buf.len() {

@@ -2,13 +2,13 @@
 use Rattle.std.specs.Prelude.{ℕ, List, false}
 use Rattle.std.specs.Borrow.{Bor}
 use Rattle.getbits.specs.declared.Place.{Place}
-use Rattle.getbits.specs.declared.Number.{Number}
+use Rattle.getbits.specs.declared.Read.{Read}
+use Rattle.seq_record.specs.declared.SequenceHeader.{SequenceHeader}
 use Rattle.seq_hdr.specs.declared.SeqRead.{SeqRead}
+use Rattle.frame_layout.specs.declared.FrameHeader.{FrameHeader}
 use Rattle.frame_layout.specs.declared.FrameRead.{FrameRead}
 use Rattle.reader.specs.declared.GetBits.{GetBits}
-use Rattle.reader.specs.declared.Read.{Read}
-use Rattle.reader.specs.declared.SeqHdrRead.{SeqHdrRead}
-use Rattle.reader.specs.declared.FrameHdrRead.{FrameHdrRead}
+use Rattle.reader.specs.declared.Answered.{Answered}
 
 -- the place before the first bit, without error
 abbrev pub start : Place
@@ -18,22 +18,21 @@ start = record { byte = 0; used = 0; error = false }
 abbrev pub reader_at : Bor (List ℕ) → Place → GetBits
 reader_at s p = record { «data» = s; at = p }
 
--- a number read from the bytes s, and the reader at the place after it
-abbrev pub read_of : Bor (List ℕ) → Number → Read
-read_of s r = record { value = r.value; reader = reader_at s r.next }
+-- the number that the reader g hands out by a reading of its bytes, and the reader after it: the same bytes, at the next place
+abbrev pub held : GetBits → Read ℕ → ℕ × GetBits
+held g r = (r.value, reader_at g.«data» r.next)
 
--- a sequence header read from the bytes s, its answer, and the reader at the place after it
-abbrev pub seq_hdr_of : Bor (List ℕ) → SeqRead → SeqHdrRead
-seq_hdr_of s r = record { answer = r.answer; hdr = r.hdr; reader = reader_at s r.next }
+-- the same by the reading of a sequence header: its answer and the header
+abbrev pub held_seq : GetBits → SeqRead → Answered SequenceHeader × GetBits
+held_seq g r = (record { answer = r.answer; hdr = r.hdr }, reader_at g.«data» r.next)
 
--- the same with the place instead of the reader
-abbrev pub seq_read_of : SeqHdrRead → SeqRead
-seq_read_of r = record { answer = r.answer; hdr = r.hdr; next = r.reader.at }
+-- what was read, with the place of the reader g after it
+abbrev pub seq_read_of : Answered SequenceHeader → GetBits → SeqRead
+seq_read_of r g = record { answer = r.answer; hdr = r.hdr; next = g.at }
 
--- a frame's header read from the bytes s, its answer, and the reader at the place after it
-abbrev pub frame_hdr_of : Bor (List ℕ) → FrameRead → FrameHdrRead
-frame_hdr_of s r = record { answer = r.answer; hdr = r.hdr; reader = reader_at s r.next }
+-- the two of a frame's header
+abbrev pub held_frame : GetBits → FrameRead → Answered FrameHeader × GetBits
+held_frame g r = (record { answer = r.answer; hdr = r.hdr }, reader_at g.«data» r.next)
 
--- the same with the place instead of the reader
-abbrev pub frame_read_of : FrameHdrRead → FrameRead
-frame_read_of r = record { answer = r.answer; hdr = r.hdr; next = r.reader.at }
+abbrev pub frame_read_of : Answered FrameHeader → GetBits → FrameRead
+frame_read_of r g = record { answer = r.answer; hdr = r.hdr; next = g.at }

@@ -17,23 +17,15 @@ struct Span {
     reach: u32,
 }
 
-fn u16_to_u32(x: u16) -> u32
-    ensures { (result ≡ x) × (result < 65536) }
-{
-    x as u32
-}
-
 // The first n starts and the closing one never fall, and are at most 1,024.
 fn never_falls(starts: &[u16], n: u8) -> bool
     ensures { result ≡ rising starts.now n }
 {
     let mut good = start_at(starts, 0) <= 1024;
-    let mut i: u8 = 0;
-    while i < n {
-        let start = start_at(starts, i as usize);
-        let next = start_at(starts, i as usize + 1);
-        good = good & ((start <= next) & (next <= 1024));
-        i += 1;
+    for i in 0..n as usize {
+        let start = start_at(starts, i);
+        let next = start_at(starts, i + 1);
+        good &= (start <= next) & (next <= 1024);
     }
     good
 }
@@ -48,13 +40,9 @@ fn is_count(n: u8) -> bool
 fn has_rectangles(t: TileInfo, sb128: u8, w: u32, h: u32) -> bool
     ensures { result ≡ has_rectangles t «sb128» w h }
 {
-    let cols = t.cols;
-    let rows = t.rows;
-    let col_start_sb = t.col_start_sb;
-    let row_start_sb = t.row_start_sb;
-    let across = never_falls(&col_start_sb, cols);
-    let down = never_falls(&row_start_sb, rows);
-    is_count(cols) & is_count(rows) & across & down & (sb128 <= 2) & is_size(w) & is_size(h)
+    let across = never_falls(&t.col_start_sb, t.cols);
+    let down = never_falls(&t.row_start_sb, t.rows);
+    is_count(t.cols) & is_count(t.rows) & across & down & (sb128 <= 2) & is_size(w) & is_size(h)
 }
 
 fn side_of(sb128: u8) -> u32
@@ -73,8 +61,7 @@ fn edge_at(starts: &[u16], side: u32, most: u32, i: usize) -> u32
     requires { (get_or starts.now i 0 ≤ 1024) × (side ≤ 256) }
     ensures { result ≡ edge starts.now side most i }
 {
-    let samples = u16_to_u32(start_at(starts, i)) * side;
-    if samples < most { samples } else { most }
+    (u32::from(start_at(starts, i)) * side).min(most)
 }
 
 fn span_of(starts: &[u16], side: u32, most: u32, i: usize) -> Span
@@ -105,11 +92,9 @@ fn put_row(out: &mut [u32], at: usize, starts: &[u16], cols: usize, side: u32, w
     ensures { out.new ≡ sets out.old at
         (each cols λ col. edge starts.now side w col ∷ down.begin ∷ reach starts.now side w col ∷ down.reach ∷ []) }
 {
-    let mut col: usize = 0;
-    while col < cols {
+    for col in 0..cols {
         let across = span_of(starts, side, w, col);
         put_rectangle(&mut *out, at + 4 * col, across, down);
-        col += 1;
     }
 }
 
@@ -119,23 +104,18 @@ fn put_rows(t: TileInfo, sb128: u8, w: u32, h: u32, out: &mut [u32])
     ensures { out.new ≡ rectangles t «sb128» w h ++ drop (rectangle_numbers t) out.old }
 {
     let cols = t.cols as usize;
-    let rows = t.rows as usize;
-    let col_start_sb = t.col_start_sb;
-    let row_start_sb = t.row_start_sb;
     let side = side_of(sb128);
-    let mut row: usize = 0;
-    while row < rows {
-        let down = span_of(&row_start_sb, side, h, row);
+    for row in 0..t.rows as usize {
+        let down = span_of(&t.row_start_sb, side, h, row);
         put_row(
             &mut *out,
             4 * cols * row,
-            &col_start_sb,
+            &t.col_start_sb,
             cols,
             side,
             w,
             down,
         );
-        row += 1;
     }
 }
 

@@ -6,16 +6,15 @@ use Rattle.getbits.specs.declared.Place.{Place}
 use Rattle.seg_info.specs.Seg.{marked, segment}
 use Rattle.seg_info.specs.declared.Features.{Features}
 use Rattle.seg_info.specs.declared.Masks.{Masks}
-use Rattle.seg_info.specs.declared.MasksRead.{MasksRead}
+use Rattle.getbits.specs.declared.Read.{Read}
 use Rattle.seg_info.specs.declared.SegmentationDataSet.{SegmentationDataSet}
-use Rattle.seg_info.specs.declared.SegRead.{SegRead}
 
 -- a record whose deltas are lent, and the place beside it
 abbrev pub lent_seg : List ℤ → Masks → SegmentationDataSet
 lent_seg deltas m = record { delta_q = deltas; delta_q_mask = m.delta_q_mask; skip_mask = m.skip_mask; globalmv_mask = m.globalmv_mask }
 
-abbrev pub lent_read : List ℤ → MasksRead → SegRead
-lent_read deltas r = record { seg = lent_seg deltas r.masks; next = r.next }
+abbrev pub lent_read : List ℤ → Read Masks → Read SegmentationDataSet
+lent_read deltas r = record { value = lent_seg deltas r.value; next = r.next }
 
 -- how many bits a segment has
 abbrev pub segment_bits : Bool → ℕ
@@ -35,4 +34,4 @@ with_features f n seg =
 abbrev pub FeaturesOf : ℕ → Features → Type 0
 FeaturesOf x f =
     (s : List ℕ) (p : Place) (n : ℕ) (seg : SegmentationDataSet) → x ≡ bits_at s (position s p) 13 → position s p + 13 ≤ bit_count s
-    → segment s n (record { seg = seg; next = p }) ≡ record { seg = with_features f n seg; next = place_at (position s p + segment_bits f.changed) p.error }
+    → segment s n (record { value = seg; next = p }) ≡ record { value = with_features f n seg; next = place_at (position s p + segment_bits f.changed) p.error }

@@ -7,7 +7,7 @@ ghost use Rattle.getbits.specs.Chain.{pick, turns};
 ghost use Rattle.seg_info.specs.Seg.{clamped, delta_if, marked, segment, parse_seg_info, no_seg_info};
 ghost use Rattle.seg_info.specs.Inner.{FeaturesOf, lent_seg, lent_read, segment_bits, with_features};
 
-use getbits::{Place, get_flag, get_sbits, look_ahead, more_than, skip};
+use getbits::{Place, Read, get_flag, get_sbits, look_ahead, more_than, skip};
 
 #[derive(Clone, Copy)]
 pub struct SegmentationDataSet {
@@ -15,18 +15,6 @@ pub struct SegmentationDataSet {
     pub delta_q_mask: u16,
     pub skip_mask: u16,
     pub globalmv_mask: u16,
-}
-
-#[derive(Clone, Copy)]
-pub struct SegRead {
-    pub seg: SegmentationDataSet,
-    pub next: Place,
-}
-
-#[derive(Clone, Copy)]
-struct DeltaRead {
-    value: i16,
-    next: Place,
 }
 
 // The features of one segment.
@@ -44,12 +32,6 @@ struct Masks {
     delta_q_mask: u16,
     skip_mask: u16,
     globalmv_mask: u16,
-}
-
-#[derive(Clone, Copy)]
-struct MasksRead {
-    masks: Masks,
-    next: Place,
 }
 
 pub fn no_seg_info() -> SegmentationDataSet
@@ -75,25 +57,24 @@ fn clamp(v: i32) -> i16
     v as i16
 }
 
-fn delta_if(s: &[u8], p: Place, cond: bool) -> DeltaRead
+fn delta_if(s: &[u8], p: Place, cond: bool) -> Read<i16>
     ensures { result ≡ delta_if cond s.now p }
 {
     if cond {
         let d = get_sbits(s, p, 10);
-        let next = d.next;
-        return DeltaRead {
+        return Read {
             value: clamp(d.value),
-            next,
+            next: d.next,
         };
     }
-    DeltaRead { value: 0, next: p }
+    Read { value: 0, next: p }
 }
 
 // A flag as a number.
 fn bit(flag: bool) -> u16
     ensures { result ≡ pick flag 1 0 }
 {
-    if flag { 1 } else { 0 }
+    u16::from(flag)
 }
 
 // Bit n is ORed on, if the flag is set.
@@ -123,7 +104,7 @@ fn put(n: usize, f: Features, masks: Masks, delta_q: &mut [i16]) -> Masks
 }
 
 // A segment's bits, one by one.
-fn read_segment(s: &[u8], n: usize, r: MasksRead, delta_q: &mut [i16]) -> MasksRead
+fn read_segment(s: &[u8], n: usize, r: Read<Masks>, delta_q: &mut [i16]) -> Read<Masks>
     requires { (n < 16) × (length delta_q.old ≡ 16) }
     ensures { lent_read delta_q.new result ≡ segment s.now n (lent_read delta_q.old r) }
 {
@@ -137,9 +118,11 @@ fn read_segment(s: &[u8], n: usize, r: MasksRead, delta_q: &mut [i16]) -> MasksR
         skip: skip.value,
         globalmv: globalmv.value,
     };
-    let masks = put(n, f, r.masks, &mut *delta_q);
-    let next = globalmv.next;
-    MasksRead { masks, next }
+    let masks = put(n, f, r.value, &mut *delta_q);
+    Read {
+        value: masks,
+        next: globalmv.next,
+    }
 }
 
 // The number of ten bits with the top one as sign.
@@ -179,22 +162,22 @@ fn segment_bits(changed: bool) -> u32
 }
 
 // Two segments out of one word.
-fn two_segments(s: &[u8], n: usize, r: MasksRead, delta_q: &mut [i16]) -> MasksRead
+fn two_segments(s: &[u8], n: usize, r: Read<Masks>, delta_q: &mut [i16]) -> Read<Masks>
     requires { (n + 1 < 16) × (length delta_q.old ≡ 16) × (position s.now r.next + 32 ≤ bit_count s.now) }
     ensures { lent_read delta_q.new result ≡ segment s.now (n + 1) (segment s.now n (lent_read delta_q.old r)) }
 {
     let word = look_ahead(s, r.next, 32);
     let a = features_of(word >> 19);
-    let first = put(n, a, r.masks, &mut *delta_q);
+    let first = put(n, a, r.value, &mut *delta_q);
     let used = segment_bits(a.changed);
     let b = features_of(word << used >> 19);
     let masks = put(n + 1, b, first, &mut *delta_q);
     let next = skip(s, r.next, used + segment_bits(b.changed));
-    MasksRead { masks, next }
+    Read { value: masks, next }
 }
 
 // n segments: two at a time where more than 56 bits are left, which are eight bytes at any place.
-fn read_segments(s: &[u8], n: usize, r: MasksRead, delta_q: &mut [i16]) -> MasksRead
+fn read_segments(s: &[u8], n: usize, r: Read<Masks>, delta_q: &mut [i16]) -> Read<Masks>
     requires { (n ≤ 16) × (length delta_q.old ≡ 16) }
     ensures { lent_read delta_q.new result ≡ turns n (segment s.now) (lent_read delta_q.old r) }
 {
@@ -213,7 +196,12 @@ fn read_segments(s: &[u8], n: usize, r: MasksRead, delta_q: &mut [i16]) -> Masks
 }
 
 // 8 segments, 16 with the extension.
-pub fn parse_seg_info(s: &[u8], p: Place, seg: SegmentationDataSet, ext: bool) -> SegRead
+pub fn parse_seg_info(
+    s: &[u8],
+    p: Place,
+    seg: SegmentationDataSet,
+    ext: bool,
+) -> Read<SegmentationDataSet>
     ensures { result ≡ parse_seg_info s.now p seg ext }
 {
     let mut delta_q = seg.delta_q;
@@ -222,17 +210,24 @@ pub fn parse_seg_info(s: &[u8], p: Place, seg: SegmentationDataSet, ext: bool) -
         skip_mask: seg.skip_mask,
         globalmv_mask: seg.globalmv_mask,
     };
-    let r = read_segments(s, segments(ext), MasksRead { masks, next: p }, &mut delta_q);
-    let masks = r.masks;
-    let next = r.next;
-    SegRead {
-        seg: SegmentationDataSet {
+    let r = read_segments(
+        s,
+        segments(ext),
+        Read {
+            value: masks,
+            next: p,
+        },
+        &mut delta_q,
+    );
+    let masks = r.value;
+    Read {
+        value: SegmentationDataSet {
             delta_q,
             delta_q_mask: masks.delta_q_mask,
             skip_mask: masks.skip_mask,
             globalmv_mask: masks.globalmv_mask,
         },
-        next,
+        next: r.next,
     }
 }
 

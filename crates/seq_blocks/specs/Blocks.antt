@@ -5,11 +5,12 @@ use Rattle.getbits.specs.Chain.{pick, then}
 use Rattle.getbits.specs.declared.Place.{Place}
 use Rattle.seq_fields.specs.Fields.{small_if, bit_of}
 use Rattle.seg_info.specs.Seg.{parse_seg_info, no_seg_info}
-use Rattle.seg_info.specs.declared.SegRead.{SegRead}
-use Rattle.seq_blocks.specs.declared.PartitionRead.{PartitionRead}
-use Rattle.seq_blocks.specs.declared.SegmentationRead.{SegmentationRead}
-use Rattle.seq_blocks.specs.declared.IntraRead.{IntraRead}
-use Rattle.seq_blocks.specs.declared.BlocksRead.{BlocksRead}
+use Rattle.getbits.specs.declared.Read.{Read}
+use Rattle.seq_blocks.specs.declared.Blocks.{Blocks}
+use Rattle.seq_blocks.specs.declared.SeqSegmentation.{SeqSegmentation}
+use Rattle.seq_blocks.specs.declared.Intra.{Intra}
+use Rattle.seg_info.specs.declared.SegmentationDataSet.{SegmentationDataSet}
+use Rattle.seq_blocks.specs.declared.Partition.{Partition}
 
 -- superblock code 0, 1, 2 means 64, 128, 256 samples
 abbrev pub sb_code : Bool → Bool → ℕ
@@ -20,7 +21,7 @@ abbrev pub aspect_ratio_log2 : Bool → Bool → ℕ
 aspect_ratio_log2 limited two = pick limited (pick two 2 1) 3
 
 -- superblock size and partitions
-unfoldable pub read_partition : Bool → Bool → List ℕ → Place → PartitionRead
+unfoldable pub read_partition : Bool → Bool → List ℕ → Place → Read Partition
 read_partition mono reduced s p =
     then (get_flag s p) λ sb256.
     then (flag_if (not sb256.value) s sb256.next) λ sb128.
@@ -31,7 +32,7 @@ read_partition mono reduced s p =
     then (get_flag s uneven.next) λ limited.
     then (flag_if limited.value s limited.next) λ two.
     record {
-      fields = record {
+      value = record {
         sb128 = sb_code sb256.value sb128.value;
         sdp = sdp.value;
         ext_sdp = extSdp.value;
@@ -43,19 +44,19 @@ read_partition mono reduced s p =
     }
 
 -- the segments' features under a condition: else the zero record, and the place as it was
-unfoldable pub seg_info_if : Bool → List ℕ → Place → Bool → SegRead
+unfoldable pub seg_info_if : Bool → List ℕ → Place → Bool → Read SegmentationDataSet
 seg_info_if true s p ext = parse_seg_info s p no_seg_info ext
-seg_info_if false s p ext = record { seg = no_seg_info; next = p }
+seg_info_if false s p ext = record { value = no_seg_info; next = p }
 
 -- segmentation
-unfoldable pub read_segmentation : List ℕ → Place → SegmentationRead
+unfoldable pub read_segmentation : List ℕ → Place → Read SeqSegmentation
 read_segmentation s p =
     then (get_flag s p) λ ext.
     then (get_flag s ext.next) λ present.
     then (flag_if present.value s present.next) λ adaptive.
     then (seg_info_if present.value s adaptive.next ext.value) λ d.
     record {
-      fields = record { ext = ext.value; info_present = present.value; adaptive = adaptive.value; d = d.seg };
+      value = record { ext = ext.value; info_present = present.value; adaptive = adaptive.value; d = d.value };
       next = d.next;
     }
 
@@ -64,7 +65,7 @@ abbrev pub filter_index : ℕ → ℕ
 filter_index n = pick (eqb n 3) 0 n
 
 -- intra tools
-unfoldable pub read_intra : Bool → List ℕ → Place → IntraRead
+unfoldable pub read_intra : Bool → List ℕ → Place → Read Intra
 read_intra mono s p =
     then (get_flag s p) λ dip.
     then (get_flag s dip.next) λ edge.
@@ -74,7 +75,7 @@ read_intra mono s p =
     then (get_flag s index.next) λ mhccp.
     then (get_flag s mhccp.next) λ ibp.
     record {
-      fields = record {
+      value = record {
         intra_dip = dip.value;
         intra_edge_filter = edge.value;
         mrls = mrls.value;
@@ -87,12 +88,12 @@ read_intra mono s p =
     }
 
 -- from the superblock size to the intra tools
-unfoldable pub read_blocks : Bool → Bool → List ℕ → Place → BlocksRead
+unfoldable pub read_blocks : Bool → Bool → List ℕ → Place → Read Blocks
 read_blocks mono reduced s p =
     then (read_partition mono reduced s p) λ partition.
     then (read_segmentation s partition.next) λ segmentation.
     then (read_intra mono s segmentation.next) λ intra.
     record {
-      fields = record { partition = partition.fields; segmentation = segmentation.fields; intra = intra.fields };
+      value = record { partition = partition.value; segmentation = segmentation.value; intra = intra.value };
       next = intra.next;
     }

@@ -4,8 +4,8 @@
 ghost use Rattle.std.specs.Prelude.{◌≡◌};
 ghost use Rattle.seq_blocks.specs.Blocks.{sb_code, aspect_ratio_log2, read_partition, seg_info_if, read_segmentation, filter_index, read_intra, read_blocks};
 
-use getbits::{Place, flag_if, get_flag};
-use seg_info::{SegRead, SegmentationDataSet, no_seg_info, parse_seg_info};
+use getbits::{Place, Read, flag_if, get_flag};
+use seg_info::{SegmentationDataSet, no_seg_info, parse_seg_info};
 use seq_fields::small_if;
 
 #[derive(Clone, Copy)]
@@ -19,23 +19,11 @@ pub struct Partition {
 }
 
 #[derive(Clone, Copy)]
-struct PartitionRead {
-    fields: Partition,
-    next: Place,
-}
-
-#[derive(Clone, Copy)]
 pub struct SeqSegmentation {
     pub ext: bool,
     pub info_present: bool,
     pub adaptive: bool,
     pub d: SegmentationDataSet,
-}
-
-#[derive(Clone, Copy)]
-struct SegmentationRead {
-    fields: SeqSegmentation,
-    next: Place,
 }
 
 #[derive(Clone, Copy)]
@@ -50,22 +38,10 @@ pub struct Intra {
 }
 
 #[derive(Clone, Copy)]
-struct IntraRead {
-    fields: Intra,
-    next: Place,
-}
-
-#[derive(Clone, Copy)]
 pub struct Blocks {
     pub partition: Partition,
     pub segmentation: SeqSegmentation,
     pub intra: Intra,
-}
-
-#[derive(Clone, Copy)]
-pub struct BlocksRead {
-    pub fields: Blocks,
-    pub next: Place,
 }
 
 fn sb_code(sb256: bool, sb128: bool) -> u8
@@ -86,7 +62,7 @@ fn aspect_ratio_log2(limited: bool, two: bool) -> u8
     3
 }
 
-fn read_partition(s: &[u8], p: Place, mono: bool, reduced: bool) -> PartitionRead
+fn read_partition(s: &[u8], p: Place, mono: bool, reduced: bool) -> Read<Partition>
     ensures { result ≡ read_partition mono reduced s.now p }
 {
     let sb256 = get_flag(s, p);
@@ -99,9 +75,8 @@ fn read_partition(s: &[u8], p: Place, mono: bool, reduced: bool) -> PartitionRea
     let two = flag_if(s, limited.next, limited.value);
     let sb_code = sb_code(sb256.value, sb128.value);
     let aspect_ratio_log2 = aspect_ratio_log2(limited.value, two.value);
-    let next = two.next;
-    PartitionRead {
-        fields: Partition {
+    Read {
+        value: Partition {
             sb128: sb_code,
             sdp: sdp.value,
             ext_sdp: ext_sdp.value,
@@ -109,21 +84,24 @@ fn read_partition(s: &[u8], p: Place, mono: bool, reduced: bool) -> PartitionRea
             uneven_4way_partitions: uneven.value,
             max_pb_aspect_ratio_log2: aspect_ratio_log2,
         },
-        next,
+        next: two.next,
     }
 }
 
-fn seg_info_if(s: &[u8], p: Place, ext: bool, cond: bool) -> SegRead
+fn seg_info_if(s: &[u8], p: Place, ext: bool, cond: bool) -> Read<SegmentationDataSet>
     ensures { result ≡ seg_info_if cond s.now p ext }
 {
     let seg = no_seg_info();
     if cond {
         return parse_seg_info(s, p, seg, ext);
     }
-    SegRead { seg, next: p }
+    Read {
+        value: seg,
+        next: p,
+    }
 }
 
-fn read_segmentation(s: &[u8], p: Place) -> SegmentationRead
+fn read_segmentation(s: &[u8], p: Place) -> Read<SeqSegmentation>
     ensures { result ≡ read_segmentation s.now p }
 {
     let ext = get_flag(s, p);
@@ -131,13 +109,12 @@ fn read_segmentation(s: &[u8], p: Place) -> SegmentationRead
     let adaptive = flag_if(s, present.next, present.value);
     let d = seg_info_if(s, adaptive.next, ext.value, present.value);
     let next = d.next;
-    let d = d.seg;
-    SegmentationRead {
-        fields: SeqSegmentation {
+    Read {
+        value: SeqSegmentation {
             ext: ext.value,
             info_present: present.value,
             adaptive: adaptive.value,
-            d,
+            d: d.value,
         },
         next,
     }
@@ -149,7 +126,7 @@ fn filter_index(index: u8) -> u8
     if index == 3 { 0 } else { index }
 }
 
-fn read_intra(s: &[u8], p: Place, mono: bool) -> IntraRead
+fn read_intra(s: &[u8], p: Place, mono: bool) -> Read<Intra>
     ensures { result ≡ read_intra mono s.now p }
 {
     let dip = get_flag(s, p);
@@ -160,9 +137,8 @@ fn read_intra(s: &[u8], p: Place, mono: bool) -> IntraRead
     let mhccp = get_flag(s, index.next);
     let ibp = get_flag(s, mhccp.next);
     let filter_index = filter_index(index.value);
-    let next = ibp.next;
-    IntraRead {
-        fields: Intra {
+    Read {
+        value: Intra {
             intra_dip: dip.value,
             intra_edge_filter: edge.value,
             mrls: mrls.value,
@@ -171,25 +147,22 @@ fn read_intra(s: &[u8], p: Place, mono: bool) -> IntraRead
             mhccp: mhccp.value,
             ibp: ibp.value,
         },
-        next,
+        next: ibp.next,
     }
 }
 
-pub fn read_blocks(s: &[u8], p: Place, mono: bool, reduced: bool) -> BlocksRead
+pub fn read_blocks(s: &[u8], p: Place, mono: bool, reduced: bool) -> Read<Blocks>
     ensures { result ≡ read_blocks mono reduced s.now p }
 {
     let partition = read_partition(s, p, mono, reduced);
     let segmentation = read_segmentation(s, partition.next);
     let intra = read_intra(s, segmentation.next, mono);
-    let partition = partition.fields;
-    let segmentation = segmentation.fields;
     let next = intra.next;
-    let intra = intra.fields;
-    BlocksRead {
-        fields: Blocks {
-            partition,
-            segmentation,
-            intra,
+    Read {
+        value: Blocks {
+            partition: partition.value,
+            segmentation: segmentation.value,
+            intra: intra.value,
         },
         next,
     }

@@ -6,14 +6,14 @@ use lib.Dec.{leb}
 use lib.IntN.{pos}
 use lib.Pow.{pow_pos}
 use Rattle.getbits.specs.Bits.{read_bits, get_bits, refused}
-use Rattle.getbits.specs.declared.Number.{Number}
+use Rattle.getbits.specs.declared.Read.{Read}
 use Rattle.getbits.specs.declared.Place.{Place}
 use Rattle.getbits.proofs.Chain.{picked}
 use Rattle.getbits.proofs.Callers.{read_lt}
 
 -- n bits give a number below 2 ^ n, whatever n is
-pub bits_below : (s : List ℕ) (p : Place) (n : ℕ) {r : Number} → r ≡ get_bits s p (pos n) → r.value < 2 ^ n
+pub bits_below : (s : List ℕ) (p : Place) (n : ℕ) {r : Read ℕ} → r ≡ get_bits s p (pos n) → r.value < 2 ^ n
 unfolding get_bits
 bits_below s p n e =
-    subst⁻¹ (λ (r : Number). r.value < 2 ^ n) e
-    (picked (λ (r : Number). r.value < 2 ^ n) (leb n 32) (read_bits s p n) (refused s p) (λ _. read_lt s p n) (λ _. pow_pos n))
+    subst⁻¹ (λ (r : Read ℕ). r.value < 2 ^ n) e
+    (picked (λ (r : Read ℕ). r.value < 2 ^ n) (leb n 32) (read_bits s p n) (refused s p) (λ _. read_lt s p n) (λ _. pow_pos n))

@@ -5,14 +5,14 @@ use Rattle.getbits.specs.Chain.{pick, then}
 use Rattle.getbits.specs.declared.Place.{Place}
 use Rattle.seq_fields.specs.declared.PixelLayout.{PixelLayout}
 use Rattle.seq_fields.specs.declared.PixelLayout.TheVariants.{I400, I420, I422, I444}
-use Rattle.seq_fields.specs.declared.Small.{Small}
+use Rattle.getbits.specs.declared.Read.{Read}
 
 -- get_bits(n) as u8: n bits, cut to eight
-unfoldable pub get_small : List ℕ → Place → ℕ → Small
+unfoldable pub get_small : List ℕ → Place → ℕ → Read ℕ
 get_small s p n = then (get_bits s p (pos n)) λ r. record { value = r.value % 256; next = r.next }
 
 -- the same under a condition: else 0, and the place as it was
-unfoldable pub small_if : Bool → List ℕ → Place → ℕ → Small
+unfoldable pub small_if : Bool → List ℕ → Place → ℕ → Read ℕ
 small_if true s p n = get_small s p n
 small_if false s p n = record { value = 0; next = p }
 

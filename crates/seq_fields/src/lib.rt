@@ -6,16 +6,16 @@ ghost use Rattle.getbits.specs.Chain.{pick};
 ghost use Rattle.seq_fields.specs.Fields.{get_small, small_if, bit_of, is_mono, layout_of};
 ghost use Rattle.seq_fields.specs.declared.AdaptiveBoolean.TheVariants.{Off, On, Adaptive};
 
-use getbits::{Place, read_bits};
+use getbits::{Place, Read, read_bits};
 
-#[derive(Clone, Copy)]
+#[derive(Clone, Copy, PartialEq, Eq)]
 pub enum AdaptiveBoolean {
     Off,
     On,
     Adaptive,
 }
 
-#[derive(Clone, Copy)]
+#[derive(Clone, Copy, PartialEq, Eq)]
 pub enum PixelLayout {
     I400,
     I420,
@@ -23,21 +23,14 @@ pub enum PixelLayout {
     I444,
 }
 
-// A field of at most eight bits, and the place after it.
-#[derive(Clone, Copy)]
-pub struct Small {
-    pub value: u8,
-    pub next: Place,
-}
-
 // get_bits(n) as u8. The place goes on in its parts: right behind the stores of these, a copy of the whole would wait for them.
-pub fn get_small(s: &[u8], p: Place, n: u32) -> Small
+pub fn get_small(s: &[u8], p: Place, n: u32) -> Read<u8>
     ensures is { result ≡ get_small s.now p n }
     ensures below { result.value < 2 ^ n }
 {
     let r = read_bits(s, p, n);
     let next = r.next;
-    Small {
+    Read {
         value: (r.value % 256) as u8,
         next: Place {
             byte: next.byte,
@@ -48,14 +41,14 @@ pub fn get_small(s: &[u8], p: Place, n: u32) -> Small
 }
 
 // The same under a condition: else 0, and the place as it was.
-pub fn small_if(s: &[u8], p: Place, n: u32, cond: bool) -> Small
+pub fn small_if(s: &[u8], p: Place, n: u32, cond: bool) -> Read<u8>
     ensures is { result ≡ small_if cond s.now p n }
     ensures below { result.value < 2 ^ n }
 {
     if cond {
         get_small(s, p, n)
     } else {
-        Small { value: 0, next: p }
+        Read { value: 0, next: p }
     }
 }
 
@@ -73,23 +66,18 @@ pub fn adaptive_or(adaptive: bool, on: bool) -> AdaptiveBoolean
     }
 }
 
-// A flag as a number.
+// A flag as a number. That it is at most 1, which From doesn't tell, spares its callers a proof.
 pub fn bit(b: bool) -> u8
     ensures { (result ≡ bit_of b) × (result ≤ 1) }
 {
-    if b { 1 } else { 0 }
+    u8::from(b)
 }
 
 // Is the layout without chroma?
 pub fn is_mono(layout: PixelLayout) -> bool
     ensures { result ≡ is_mono layout }
 {
-    match layout {
-        PixelLayout::I400 => true,
-        PixelLayout::I420 => false,
-        PixelLayout::I422 => false,
-        PixelLayout::I444 => false,
-    }
+    layout == PixelLayout::I400
 }
 
 // The layout with a number.

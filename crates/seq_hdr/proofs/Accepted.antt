@@ -33,7 +33,7 @@ module _ (P : SequenceHeader → Type 0) where
   pub accepted_header : (s : List ℕ) (p : Place) (strict : Bool)
       → let head = read_head s p in
       (is_refusal head.answer ≡ false → is_refusal (tiling_of head.hdr s head.next).answer ≡ false
-      → (grain : Bool) → P (with_tiling head.hdr (tiling_of head.hdr s head.next).fields grain))
+      → (grain : Bool) → P (with_tiling head.hdr (tiling_of head.hdr s head.next).value grain))
       → is_refusal (parse_seq_hdr s p strict).answer ≡ false → P (parse_seq_hdr s p strict).hdr
   unfolding parse_seq_hdr refused_header then
   accepted_header s p strict whole =
@@ -48,4 +48,4 @@ module _ (P : SequenceHeader → Type 0) where
       (λ z.
       picked Kept grain.next.error _ _
       (λ _ e. contrary refl e)
-      (λ _. end_kept strict (with_tiling head.hdr tiling.fields grain.value) s grain.next (whole d z grain.value))))
+      (λ _. end_kept strict (with_tiling head.hdr tiling.value grain.value) s grain.next (whole d z grain.value))))

@@ -54,7 +54,7 @@ record Sized (size : FrameSize) : Type 0 where
   width : Size (unsigned size.max_width)
   height : Size (unsigned size.max_height)
 
-size_in : (s : List ℕ) (p : Place) → Sized (read_frame_size s p).fields
+size_in : (s : List ℕ) (p : Place) → Sized (read_frame_size s p).value
 unfolding read_frame_size then
 size_in s p =
     let a = get_small s p 4 in
@@ -65,7 +65,7 @@ size_in s p =
       height = length_in s w.next (b.value + 1) (omega (arith, small_lt s a.next 4));
     }
 
-picture_in : (reduced : Bool) (s : List ℕ) (p : Place) → Sized (read_picture reduced s p).fields.size
+picture_in : (reduced : Bool) (s : List ℕ) (p : Place) → Sized (read_picture reduced s p).value.size
 unfolding read_picture then
 picture_in reduced s p = size_in s (read_layers reduced s p).next
 
@@ -74,7 +74,7 @@ record Leveled (l : Level) : Type 0 where
   level : l.level ≤ 31
   tier : l.tier ≤ 1
 
-level_in : (s : List ℕ) (p : Place) → Leveled (read_level s p).fields
+level_in : (s : List ℕ) (p : Place) → Leveled (read_level s p).value
 unfolding read_level then
 level_in s p =
     let r = get_flag s p in
@@ -86,7 +86,7 @@ code_le true b = omega arith
 code_le false true = omega arith
 code_le false false = omega arith
 
-blocks_in : (mono reduced : Bool) (s : List ℕ) (p : Place) → (read_blocks mono reduced s p).fields.partition.sb128 ≤ 2
+blocks_in : (mono reduced : Bool) (s : List ℕ) (p : Place) → (read_blocks mono reduced s p).value.partition.sb128 ≤ 2
 unfolding read_blocks read_partition then
 blocks_in mono reduced s p =
     let sb256 = get_flag s p in
@@ -119,17 +119,17 @@ head_in s p =
     let start = read_start s p in
     let level = read_level s start.next in
     let format = read_format level.layout_idx s level.next in
-    let mono = is_mono format.fields.layout in
-    let reduced = level.fields.reduced_still_picture_header in
+    let mono = is_mono format.value.layout in
+    let reduced = level.value.reduced_still_picture_header in
     let picture = read_picture reduced s format.next in
     let blocks = read_blocks mono reduced s picture.next in
     let motion = read_motion reduced s blocks.next in
     let refs = read_ref_frames reduced s motion.next in
     let P : SeqRead → Type 0 = λ r. in_domain (args_before r.hdr) ≡ true in
-    ask P (unknown_profile start.fields.profile) start.next
+    ask P (unknown_profile start.value.profile) start.next
     (ask P (ltb 3 level.layout_idx) level.next
     (ask P (ltb 2 format.depth_idx) format.next
-    (ask P (ltb 8 refs.fields.ref_frames) refs.next
+    (ask P (ltb 8 refs.value.ref_frames) refs.next
     (λ _.
-    args_in blocks.fields.partition.sb128 picture.fields.size level.fields
+    args_in blocks.value.partition.sb128 picture.value.size level.value
     (blocks_in mono reduced s picture.next) (picture_in reduced s format.next) (level_in s start.next)))))

@@ -35,7 +35,7 @@ layout true sb128 size level s p e = (read_over_lem s p no_tile_info (tiling_arg
 layout false sb128 size level s p e = none_cleared
 
 tiling_cleared : (sb128 : ℕ) (size : FrameSize) (level : Level) (s : List ℕ) (p : Place)
-    → is_refusal (read_tiling sb128 size level s p).answer ≡ false → Cleared (read_tiling sb128 size level s p).fields.t
+    → is_refusal (read_tiling sb128 size level s p).answer ≡ false → Cleared (read_tiling sb128 size level s p).value.t
 unfolding read_tiling then
 tiling_cleared sb128 size level s p e = layout (get_flag s p).value sb128 size level s _ e
 
@@ -54,4 +54,4 @@ header_cleared s p strict =
     picked Clear (is_refusal h.answer) _ _ (λ e. rw ((head_refused s p).zero e) none_cleared)
     (λ _. picked Clear (is_refusal tiling.answer) _ _ (λ _. refused InvalidTileInfo tiling.next)
     (λ e. picked Clear grain.next.error _ _ (λ _. refused InvalidSequenceHeader grain.next)
-    (λ _. trailing strict (with_tiling h.hdr tiling.fields grain.value) s grain.next (tiling_cleared _ _ _ s h.next e))))
+    (λ _. trailing strict (with_tiling h.hdr tiling.value grain.value) s grain.next (tiling_cleared _ _ _ s h.next e))))

@@ -57,7 +57,7 @@ module _ (s : List ℕ) (p : Place) (strict : Bool) (has : HasLayout s p) where
   tiling = read_tiling head.hdr.blocks.partition.sb128 head.hdr.picture.size head.hdr.level s head.next
 
   -- the tiling's answer and layout are the call's
-  tiling_is : (tiling.answer ≡ (layout_call s p).answer) × (tiling.fields.t ≡ (layout_call s p).info)
+  tiling_is : (tiling.answer ≡ (layout_call s p).answer) × (tiling.value.t ≡ (layout_call s p).info)
   unfolding read_tiling then flag_if tile_info_if
   tiling_is = rw has.1 (refl, refl)
 
@@ -66,7 +66,7 @@ module _ (s : List ℕ) (p : Place) (strict : Bool) (has : HasLayout s p) where
       ≡ pick (is_refusal tiling.answer) (refused_header InvalidTileInfo tiling.next)
       (then (get_flag s tiling.next) λ grain.
       pick grain.next.error (refused_header InvalidSequenceHeader grain.next)
-      (then (with_tiling head.hdr tiling.fields grain.value) λ hdr. check_trailing_bits strict hdr s grain.next))
+      (then (with_tiling head.hdr tiling.value grain.value) λ hdr. check_trailing_bits strict hdr s grain.next))
   unfolding parse_seq_hdr
   opened = through _ _ refl ∙ left _ _ _ has.0 ∙ through _ _ refl
 
@@ -85,7 +85,7 @@ module _ (s : List ℕ) (p : Place) (strict : Bool) (has : HasLayout s p) where
       rw (opened ∙ left _ _ _ (ap is_refusal tiling_is.0 ∙ e))
       (picked (Behind (layout_call s p).info) grain.next.error _ _
       (λ _. behind_1 (layout_call s p).info grain.next)
-      (λ _. behind_end (layout_call s p).info strict (with_tiling head.hdr tiling.fields grain.value) s grain.next tiling_is.1))
+      (λ _. behind_end (layout_call s p).info strict (with_tiling head.hdr tiling.value grain.value) s grain.next tiling_is.1))
 
 -- a test is true or false
 by_test : (P : Type 0) (t : Bool) → (t ≡ true → P) → (t ≡ false → P) → P

@@ -72,7 +72,7 @@ module _ (z : TileRead) (b : Buffers) (h : has_room b ≡ true) {o : TileOutcome
   stays false r = goes_over z.info b after h (left_in ∙ left _ _ _ r) cols rows no_tile_info
 
   pub tiling-into : {w : TilingRead} {present meant : AdaptiveBoolean} → present ≡ meant
-      → w ≡ record { answer = z.answer; fields = record { present = meant; t = z.info }; next = z.next }
+      → w ≡ record { answer = z.answer; value = record { present = meant; t = z.info }; next = z.next }
       → TilingInto w b (record { answer = o.answer; present = present; next = o.next }) after
   tiling-into f g = record { is = rw (g, f, outcome) refl; put = rw (g, outcome) left_in; behind = stays (is_refusal z.answer) refl }
 

@@ -55,7 +55,7 @@ groups start level format s p =
     let blocks = read_blocks mono reduced s picture.next in
     let motion = read_motion reduced s blocks.next in
     let refs = read_ref_frames reduced s motion.next in
-    picked Refused (ltb 8 refs.fields.ref_frames) _ _ (λ _. refused InvalidSequenceHeader refs.next (omega arith)) (λ _. accepted _ _)
+    picked Refused (ltb 8 refs.value.ref_frames) _ _ (λ _. refused InvalidSequenceHeader refs.next (omega arith)) (λ _. accepted _ _)
 
 pub head_refused : (s : List ℕ) (p : Place) → Refused (read_head s p)
 unfolding read_head then
@@ -63,10 +63,10 @@ head_refused s p =
     let start = read_start s p in
     let level = read_level s start.next in
     let format = read_format level.layout_idx s level.next in
-    picked Refused (unknown_profile start.fields.profile) _ _ (λ _. refused InvalidSequenceHeader start.next (omega arith))
+    picked Refused (unknown_profile start.value.profile) _ _ (λ _. refused InvalidSequenceHeader start.next (omega arith))
     (λ _. picked Refused (ltb 3 level.layout_idx) _ _ (λ _. refused InvalidSequenceHeader level.next (omega arith))
     (λ _. picked Refused (ltb 2 format.depth_idx) _ _ (λ _. refused InvalidSequenceHeader format.next (omega arith))
-    (λ _. groups start.fields level.fields format.fields s format.next)))
+    (λ _. groups start.value level.value format.value s format.next)))
 
 pub header_refused : (s : List ℕ) (p : Place) (strict : Bool) → Refused (parse_seq_hdr s p strict)
 unfolding parse_seq_hdr then
@@ -77,4 +77,4 @@ header_refused s p strict =
     picked Refused (is_refusal h.answer) _ _ (λ _. head_refused s p)
     (λ _. picked Refused (is_refusal tiling.answer) _ _ (λ _. refused InvalidTileInfo tiling.next (omega arith))
     (λ _. picked Refused grain.next.error _ _ (λ _. refused InvalidSequenceHeader grain.next (omega arith))
-    (λ _. trailing strict (with_tiling h.hdr tiling.fields grain.value) s grain.next)))
+    (λ _. trailing strict (with_tiling h.hdr tiling.value grain.value) s grain.next)))

@@ -24,15 +24,15 @@ use Rattle.seq_record.specs.declared.Start.{Start}
 use Rattle.seq_fields.specs.declared.AdaptiveBoolean.TheVariants.{Off}
 use Rattle.tile_layout.specs.Limits.{no_tile_info}
 use Rattle.seq_hdr.specs.Tiling.{read_tiling}
-use Rattle.seq_hdr.specs.declared.StartRead.{StartRead}
+use Rattle.getbits.specs.declared.Read.{Read}
 use Rattle.seq_hdr.specs.declared.SeqRead.{SeqRead}
 
 -- the id, cut to eight bits, and the profile
-unfoldable pub read_start : List ℕ → Place → StartRead
+unfoldable pub read_start : List ℕ → Place → Read Start
 read_start s p =
     then (get_vlc s p) λ id.
     then (get_small s id.next 5) λ profile.
-    record { fields = record { id = id.value % 256; profile = profile.value }; next = profile.next }
+    record { value = record { id = id.value % 256; profile = profile.value }; next = profile.next }
 
 -- is the profile neither at most 8 nor 31?
 abbrev pub unknown_profile : ℕ → Bool
@@ -60,10 +60,10 @@ read_groups start level format s p =
     then (read_blocks mono reduced s picture.next) λ blocks.
     then (read_motion reduced s blocks.next) λ motion.
     then (read_ref_frames reduced s motion.next) λ refs.
-    pick (ltb 8 refs.fields.ref_frames) (refused_header InvalidSequenceHeader refs.next) (
+    pick (ltb 8 refs.value.ref_frames) (refused_header InvalidSequenceHeader refs.next) (
     then (read_inter reduced s refs.next) λ inter.
     then (read_residual mono reduced s inter.next) λ residual.
-    then blocks.fields.partition.sb128 λ sb128.
+    then blocks.value.partition.sb128 λ sb128.
     then (read_filters reduced sb128 s residual.next) λ filters.
     record {
       answer = Accepted;
@@ -71,13 +71,13 @@ read_groups start level format s p =
         start = start;
         level = level;
         format = format;
-        picture = picture.fields;
-        blocks = blocks.fields;
-        motion = motion.fields;
-        refs = refs.fields;
-        inter = inter.fields;
-        residual = residual.fields;
-        filters = filters.fields;
+        picture = picture.value;
+        blocks = blocks.value;
+        motion = motion.value;
+        refs = refs.value;
+        inter = inter.value;
+        residual = residual.value;
+        filters = filters.value;
         tiling = record { present = Off; t = no_tile_info };
         film_grain_present = false;
       };
@@ -88,12 +88,12 @@ read_groups start level format s p =
 unfoldable pub read_head : List ℕ → Place → SeqRead
 read_head s p =
     then (read_start s p) λ start.
-    pick (unknown_profile start.fields.profile) (refused_header InvalidSequenceHeader start.next) (
+    pick (unknown_profile start.value.profile) (refused_header InvalidSequenceHeader start.next) (
     then (read_level s start.next) λ level.
     pick (ltb 3 level.layout_idx) (refused_header InvalidSequenceHeader level.next) (
     then (read_format level.layout_idx s level.next) λ format.
     pick (ltb 2 format.depth_idx) (refused_header InvalidSequenceHeader format.next)
-    (read_groups start.fields level.fields format.fields s format.next)))
+    (read_groups start.value level.value format.value s format.next)))
 
 -- the record with its last two fields
 abbrev pub with_tiling : SequenceHeader → SeqTiling → Bool → SequenceHeader
@@ -122,5 +122,5 @@ parse_seq_hdr s p strict =
     pick (is_refusal tiling.answer) (refused_header InvalidTileInfo tiling.next) (
     then (get_flag s tiling.next) λ grain.
     pick grain.next.error (refused_header InvalidSequenceHeader grain.next) (
-    then (with_tiling head.hdr tiling.fields grain.value) λ hdr.
+    then (with_tiling head.hdr tiling.value grain.value) λ hdr.
     check_trailing_bits strict hdr s grain.next)))

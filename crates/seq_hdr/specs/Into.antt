@@ -50,12 +50,12 @@ pub record HeadPut (before : List ℤ) (r : SeqRead) (after : List ℤ) : Type 0
 
 -- the tiling that is read, with its layout t
 abbrev pub whole_tiling : TilingOutcome → TileInfo → TilingRead
-whole_tiling r t = record { answer = r.answer; fields = record { present = r.present; t = t }; next = r.next }
+whole_tiling r t = record { answer = r.answer; value = record { present = r.present; t = t }; next = r.next }
 
 -- the tiling z was read, and its layout put over buffers b, unless it is refused; what stands behind a layout stays as it was
 pub record TilingInto (z : TilingRead) (b : Buffers) (r : TilingOutcome) (after : Buffers) : Type 0 where
-  pub is : whole_tiling r z.fields.t ≡ z
-  pub put : after ≡ pick (is_refusal r.answer) b (put_layout z.fields.t b)
+  pub is : whole_tiling r z.value.t ≡ z
+  pub put : after ≡ pick (is_refusal r.answer) b (put_layout z.value.t b)
   pub behind : put_layout no_tile_info after ≡ put_layout no_tile_info b
 
 -- the last questions about a header
@@ -73,7 +73,7 @@ read_rest strict sb128 size level hdr s p =
     pick (is_refusal tiling.answer) (refused_header InvalidTileInfo tiling.next) (
     then (get_flag s tiling.next) λ grain.
     pick grain.next.error (refused_header InvalidSequenceHeader grain.next) (
-    then (with_tiling hdr tiling.fields grain.value) λ hdr.
+    then (with_tiling hdr tiling.value grain.value) λ hdr.
     check_trailing_bits strict hdr s grain.next))
 
 -- the header that it ends, with its layout t

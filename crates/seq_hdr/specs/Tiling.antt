@@ -27,7 +27,7 @@ tile_info_if false sb128 size level s p = record { answer = Accepted; info = no_
 -- the answer, the tiling and the place after it
 pub record TilingRead : Type 0 where
   pub answer : Answer
-  pub fields : SeqTiling
+  pub value : SeqTiling
   pub next : Place
 
 -- tiling: Off, or On or Adaptive with a layout
@@ -38,6 +38,6 @@ read_tiling sb128 size level s p =
     then (tile_info_if present.value sb128 size level s adaptive.next) λ t.
     record {
       answer = t.answer;
-      fields = record { present = pick adaptive.value Adaptive (pick present.value On Off); t = t.info };
+      value = record { present = pick adaptive.value Adaptive (pick present.value On Off); t = t.info };
       next = t.next;
     }

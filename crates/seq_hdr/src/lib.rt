@@ -20,7 +20,7 @@ use flat_hdr::{
     put_blocks, put_filters, put_head, put_inter, put_last, put_motion, put_picture, put_residual,
     put_zeros,
 };
-use getbits::{Place, get_flag};
+use getbits::{Place, Read, get_flag};
 use seq_blocks::read_blocks;
 use seq_fields::{AdaptiveBoolean, adaptive_or, get_small, is_mono};
 use seq_inter::{read_inter, read_motion, read_ref_frames};
@@ -45,12 +45,6 @@ pub struct HeaderOutcome {
     pub next: Place,
 }
 
-#[derive(Clone, Copy)]
-struct StartRead {
-    fields: Start,
-    next: Place,
-}
-
 // The tiling's answer, the layout's presence, and the place after it.
 #[derive(Clone, Copy)]
 struct TilingOutcome {
@@ -68,18 +62,17 @@ struct RestRead {
     next: Place,
 }
 
-fn read_start(s: &[u8], p: Place) -> StartRead
+fn read_start(s: &[u8], p: Place) -> Read<Start>
     ensures { result ≡ read_start s.now p }
 {
     let id = get_vlc(s, p);
     let profile = get_small(s, id.next, 5);
-    let next = profile.next;
-    StartRead {
-        fields: Start {
+    Read {
+        value: Start {
             id: (id.value % 256) as u8,
             profile: profile.value,
         },
-        next,
+        next: profile.next,
     }
 }
 
@@ -118,8 +111,8 @@ fn read_tiling(
     cols: &mut [u16],
     rows: &mut [u16],
 ) -> TilingOutcome
-    requires rows_value { has_room (buffers info.old cols.old rows.old) ≡ true }
-    requires rows_value_2 { put_layout no_tile_info (buffers info.old cols.old rows.old) ≡ buffers info.old cols.old rows.old }
+    requires room { has_room (buffers info.old cols.old rows.old) ≡ true }
+    requires zero_layout { put_layout no_tile_info (buffers info.old cols.old rows.old) ≡ buffers info.old cols.old rows.old }
     ensures { let before = buffers info.old cols.old rows.old in
         let after = buffers info.new cols.new rows.new in
         TilingInto (read_tiling sb128 size level s.now p) before result after }
@@ -149,12 +142,10 @@ fn read_tiling(
         level.tier,
     );
     let present = adaptive_or(adaptive.value, true);
-    let answer = r.answer;
-    let next = r.next;
     TilingOutcome {
-        answer,
+        answer: r.answer,
         present,
-        next,
+        next: r.next,
     }
 }
 
@@ -217,30 +208,23 @@ fn read_groups(
     let mono = is_mono(layout);
     let reduced = level.reduced_still_picture_header;
     let picture = read_picture(s, p, reduced);
-    put_picture(&mut *out, picture.fields);
+    put_picture(&mut *out, picture.value);
     let blocks = read_blocks(s, picture.next, mono, reduced);
-    put_blocks(&mut *out, blocks.fields);
+    put_blocks(&mut *out, blocks.value);
     let motion = read_motion(s, blocks.next, reduced);
     let refs = read_ref_frames(s, motion.next, reduced);
-    if above(refs.fields.ref_frames as u32, 8) {
+    if above(refs.value.ref_frames as u32, 8) {
         return refuse_header(Answer::InvalidSequenceHeader, refs.next);
     }
-    put_motion(&mut *out, motion.fields, refs.fields);
+    put_motion(&mut *out, motion.value, refs.value);
     let inter = read_inter(s, refs.next, reduced);
-    put_inter(&mut *out, inter.fields);
+    put_inter(&mut *out, inter.value);
     let residual = read_residual(s, inter.next, mono, reduced);
-    put_residual(&mut *out, residual.fields);
-    let sb128 = blocks.fields.partition.sb128;
+    put_residual(&mut *out, residual.value);
+    let sb128 = blocks.value.partition.sb128;
     let filters = read_filters(s, residual.next, reduced, sb128);
-    put_filters(&mut *out, filters.fields);
-    let picture = picture.fields;
-    let blocks = blocks.fields;
-    let motion = motion.fields;
-    let refs = refs.fields;
-    let inter = inter.fields;
-    let residual = residual.fields;
+    put_filters(&mut *out, filters.value);
     let next = filters.next;
-    let filters = filters.fields;
     let t = no_tile_info();
     SeqRead {
         answer: Answer::Accepted,
@@ -248,13 +232,13 @@ fn read_groups(
             start,
             level,
             format,
-            picture,
-            blocks,
-            motion,
-            refs,
-            inter,
-            residual,
-            filters,
+            picture: picture.value,
+            blocks: blocks.value,
+            motion: motion.value,
+            refs: refs.value,
+            inter: inter.value,
+            residual: residual.value,
+            filters: filters.value,
             tiling: SeqTiling {
                 present: AdaptiveBoolean::Off,
                 t,
@@ -271,7 +255,7 @@ fn read_head(s: &[u8], p: Place, out: &mut [i64]) -> SeqRead
     ensures numbers { HeadPut out.old result out.new }
 {
     let start = read_start(s, p);
-    if unknown_profile(start.fields.profile) {
+    if unknown_profile(start.value.profile) {
         return refuse_header(Answer::InvalidSequenceHeader, start.next);
     }
     let level = read_level(s, start.next);
@@ -285,9 +269,9 @@ fn read_head(s: &[u8], p: Place, out: &mut [i64]) -> SeqRead
     read_groups(
         s,
         format.next,
-        start.fields,
-        level.fields,
-        format.fields,
+        start.value,
+        level.value,
+        format.value,
         &mut *out,
     )
 }
@@ -314,11 +298,11 @@ fn read_rest(
     cols: &mut [u16],
     rows: &mut [u16],
 ) -> RestRead
-    requires rows_value { has_room (buffers info.old cols.old rows.old) ≡ true }
-    requires rows_value_2 { put_layout no_tile_info (buffers info.old cols.old rows.old) ≡ buffers info.old cols.old rows.old }
+    requires room { has_room (buffers info.old cols.old rows.old) ≡ true }
+    requires zero_layout { put_layout no_tile_info (buffers info.old cols.old rows.old) ≡ buffers info.old cols.old rows.old }
     ensures { let before = buffers info.old cols.old rows.old in
         let after = buffers info.new cols.new rows.new in
-        let t = (read_tiling sb128 size level s.now p).fields.t in
+        let t = (read_tiling sb128 size level s.now p).value.t in
         ((hdr : SequenceHeader) → read_rest strict sb128 size level hdr s.now p ≡ whole_rest result t hdr)
         × (after ≡ pick (is_refusal result.answer) before (put_layout t before)) }
 {
@@ -359,13 +343,13 @@ pub fn read_seq_hdr(
     cols: &mut [u16],
     rows: &mut [u16],
 ) -> HeaderOutcome
-    ensures after_after { let before = buffers info.old cols.old rows.old in
+    ensures outcome { let before = buffers info.old cols.old rows.old in
         let after = buffers info.new cols.new rows.new in
         (result, out.new, after) ≡ parse_seq_hdr_into s.now p strict out.old before }
-    ensures fact { let before = buffers info.old cols.old rows.old in
+    ensures layout_put { let before = buffers info.old cols.old rows.old in
         let after = buffers info.new cols.new rows.new in
         (has_room before ≡ true → layout_in after ≡ (parse_seq_hdr s.now p strict).hdr.tiling.t) }
-    ensures fact_2 { let before = buffers info.old cols.old rows.old in
+    ensures header_tiling { let before = buffers info.old cols.old rows.old in
         let after = buffers info.new cols.new rows.new in
         (has_room before ≡ true → HeaderTiling s.now p (number_of result.answer) (layout_in after)) }
 {
@@ -435,8 +419,14 @@ pub fn parse_seq_hdr(s: &[u8], p: Place, strict: bool) -> SeqRead
     if is_refusal(answer) {
         return refuse_header(answer, next);
     }
-    let present = rest.present;
     let t = tile_info_of(&info, &cols, &rows);
-    let hdr = with_tiling(head.hdr, SeqTiling { present, t }, rest.film_grain_present);
+    let hdr = with_tiling(
+        head.hdr,
+        SeqTiling {
+            present: rest.present,
+            t,
+        },
+        rest.film_grain_present,
+    );
     SeqRead { answer, hdr, next }
 }

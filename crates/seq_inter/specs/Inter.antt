@@ -5,20 +5,20 @@ use Rattle.getbits.specs.Chain.{pick, then}
 use Rattle.getbits.specs.declared.Place.{Place}
 use Rattle.codes.specs.Codes.{uniform_if}
 use Rattle.seq_fields.specs.Fields.{small_if}
-use Rattle.seq_fields.specs.declared.Small.{Small}
+use Rattle.getbits.specs.declared.Read.{Read}
+use Rattle.seq_inter.specs.declared.Drl.{Drl}
+use Rattle.seq_inter.specs.declared.Mv.{Mv}
+use Rattle.seq_inter.specs.declared.Inter.{Inter}
+use Rattle.seq_inter.specs.declared.Screen.{Screen}
+use Rattle.seq_inter.specs.declared.Tip.{Tip}
 use Rattle.seq_fields.specs.declared.AdaptiveBoolean.TheVariants.{Off, On, Adaptive}
-use Rattle.seq_inter.specs.declared.DrlRead.{DrlRead}
-use Rattle.seq_inter.specs.declared.TipRead.{TipRead}
-use Rattle.seq_inter.specs.declared.MvRead.{MvRead}
-use Rattle.seq_inter.specs.declared.ScreenRead.{ScreenRead}
-use Rattle.seq_inter.specs.declared.InterRead.{InterRead}
 
 -- a number of bits from 1 to max; 1 where it is not sent
-unfoldable pub count_if : Bool → List ℕ → Place → ℕ → Small
+unfoldable pub count_if : Bool → List ℕ → Place → ℕ → Read ℕ
 count_if sent s p max = then (uniform_if sent s p max) λ n. record { value = n.value + 1; next = n.next }
 
 -- long-term frame ids and the bits of the motion vector lists
-unfoldable pub read_drl : Bool → List ℕ → Place → DrlRead
+unfoldable pub read_drl : Bool → List ℕ → Place → Read Drl
 read_drl reduced s p =
     then (small_if (not reduced) s p 3) λ ltBits.
     then (count_if (not reduced) s ltBits.next 5) λ drlBits.
@@ -27,7 +27,7 @@ read_drl reduced s p =
     then (get_flag s bvpBits.next) λ maxBvp.
     then (small_if (not reduced) s maxBvp.next 2) λ sameRef.
     record {
-      fields = record {
+      value = record {
         number_of_bits_for_lt_frame_id = ltBits.value;
         def_max_drl_bits = drlBits.value;
         allow_frame_max_drl_bits = frameDrl.value;
@@ -39,7 +39,7 @@ read_drl reduced s p =
     }
 
 -- temporal interpolation and compound tools; with tip set one further bit is read and ignored
-unfoldable pub read_tip : Bool → List ℕ → Place → TipRead
+unfoldable pub read_tip : Bool → List ℕ → Place → Read Tip
 read_tip reduced s p =
     then (flag_if (not reduced) s p) λ tip.
     then (flag_if tip.value s tip.next) λ ignored.
@@ -51,7 +51,7 @@ read_tip reduced s p =
     then (flag_if (not reduced) s impMskBld.next) λ dbSubPu.
     then (flag_if (tip.value && dbSubPu.value) s dbSubPu.next) λ explicitQp.
     record {
-      fields = record {
+      value = record {
         tip = tip.value;
         tip_hole_fill = holeFill.value;
         mv_traj = mvTraj.value;
@@ -65,7 +65,7 @@ read_tip reduced s p =
     }
 
 -- refinement and coding of motion vectors, global motion, refresh flags
-unfoldable pub read_mv : Bool → Bool → List ℕ → Place → MvRead
+unfoldable pub read_mv : Bool → Bool → List ℕ → Place → Read Mv
 read_mv reduced tip s p =
     then (small_if (not reduced) s p 2) λ opfl.
     then (flag_if (not reduced) s opfl.next) λ refine.
@@ -77,7 +77,7 @@ read_mv reduced tip s p =
     then (flag_if (not reduced) s flexRes.next) λ global.
     then (flag_if (not reduced) s global.next) λ shortRefresh.
     record {
-      fields = record {
+      value = record {
         opfl_refine = ltb 0 opfl.value;
         refine_mv = refine.value;
         tip_refine_mv = tipRefine.value;
@@ -92,7 +92,7 @@ read_mv reduced tip s p =
     }
 
 -- screen content tools, and integer motion vectors if the tools may be on; adaptive where not sent
-unfoldable pub read_screen : Bool → List ℕ → Place → ScreenRead
+unfoldable pub read_screen : Bool → List ℕ → Place → Read Screen
 read_screen reduced s p =
     then (flag_if (not reduced) s p) λ select.
     then (flag_if (not reduced && not select.value) s select.next) λ on.
@@ -100,7 +100,7 @@ read_screen reduced s p =
     then (flag_if sent s on.next) λ mvSelect.
     then (flag_if (sent && not mvSelect.value) s mvSelect.next) λ mvOn.
     record {
-      fields = record {
+      value = record {
         screen_content_tools = pick (reduced || select.value) Adaptive (pick on.value On Off);
         force_integer_mv = pick (not sent || mvSelect.value) Adaptive (pick mvOn.value On Off);
       };
@@ -108,13 +108,13 @@ read_screen reduced s p =
     }
 
 -- from the long-term frame ids to the screen content tools
-unfoldable pub read_inter : Bool → List ℕ → Place → InterRead
+unfoldable pub read_inter : Bool → List ℕ → Place → Read Inter
 read_inter reduced s p =
     then (read_drl reduced s p) λ drl.
     then (read_tip reduced s drl.next) λ tip.
-    then (read_mv reduced tip.fields.tip s tip.next) λ mv.
+    then (read_mv reduced tip.value.tip s tip.next) λ mv.
     then (read_screen reduced s mv.next) λ screen.
     record {
-      fields = record { drl = drl.fields; tip = tip.fields; mv = mv.fields; screen = screen.fields };
+      value = record { drl = drl.value; tip = tip.value; mv = mv.value; screen = screen.value };
       next = screen.next;
     }

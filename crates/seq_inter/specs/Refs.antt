@@ -5,8 +5,9 @@ use Rattle.getbits.specs.Chain.{pick, then}
 use Rattle.getbits.specs.declared.Place.{Place}
 use Rattle.codes.specs.Codes.{bit_length}
 use Rattle.seq_fields.specs.Fields.{small_if, bit_of}
-use Rattle.seq_inter.specs.declared.MotionRead.{MotionRead}
-use Rattle.seq_inter.specs.declared.RefFramesRead.{RefFramesRead}
+use Rattle.getbits.specs.declared.Read.{Read}
+use Rattle.seq_inter.specs.declared.Motion.{Motion}
+use Rattle.seq_inter.specs.declared.RefFrames.{RefFrames}
 
 -- the motion modes as a mask; mode 0, translation, is always there
 abbrev pub motion_modes : Bool → Bool → Bool → Bool → ℕ
@@ -17,7 +18,7 @@ abbrev pub order_hint_bits : Bool → ℕ → ℕ
 order_hint_bits reduced n = pick reduced 0 (n + 1)
 
 -- motion modes, and what a full header says of motion vectors and order hints; mode 3 is a warp delta
-unfoldable pub read_motion : Bool → List ℕ → Place → MotionRead
+unfoldable pub read_motion : Bool → List ℕ → Place → Read Motion
 read_motion reduced s p =
     then (flag_if (not reduced) s p) λ m1.
     then (flag_if (not reduced) s m1.next) λ m2.
@@ -30,7 +31,7 @@ read_motion reduced s p =
     then (small_if mvs.value s mvs.next 1) λ mvsMode.
     then (small_if (not reduced) s mvsMode.next 4) λ hintBits.
     record {
-      fields = record {
+      value = record {
         motion_modes = motion_modes m1.value m2.value m3.value m4.value;
         frame_motion_modes_present = frameModes.value;
         six_param_warp_delta = sixParam.value;
@@ -55,7 +56,7 @@ abbrev pub ref_frames_log2 : Bool → ℕ → ℕ
 ref_frames_log2 reduced n = pick reduced 0 (bit_length (n - 1))
 
 -- the motion vector bank and the number of reference frames
-unfoldable pub read_ref_frames : Bool → List ℕ → Place → RefFramesRead
+unfoldable pub read_ref_frames : Bool → List ℕ → Place → Read RefFrames
 read_ref_frames reduced s p =
     then (get_flag s p) λ bank.
     then (get_flag s bank.next) λ off.
@@ -65,7 +66,7 @@ read_ref_frames reduced s p =
     then (small_if sent.value s sent.next 4) λ count.
     then (ref_frames reduced sent.value count.value) λ frames.
     record {
-      fields = record {
+      value = record {
         refmv_bank = bank.value;
         drl_reorder = drl_reorder off.value constrained.value;
         explicit_ref_frame_map = explicit.value;

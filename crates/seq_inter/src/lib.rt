@@ -6,8 +6,8 @@ ghost use Rattle.seq_inter.specs.Refs.{motion_modes, order_hint_bits, read_motio
 ghost use Rattle.seq_inter.specs.Inter.{count_if, read_drl, read_tip, read_mv, read_screen, read_inter};
 
 use codes::uniform_if;
-use getbits::{Place, flag_if, get_flag};
-use seq_fields::{AdaptiveBoolean, Small, adaptive_or, bit, small_if};
+use getbits::{Place, Read, flag_if, get_flag};
+use seq_fields::{AdaptiveBoolean, adaptive_or, bit, small_if};
 
 #[derive(Clone, Copy)]
 pub struct Motion {
@@ -21,24 +21,12 @@ pub struct Motion {
 }
 
 #[derive(Clone, Copy)]
-pub struct MotionRead {
-    pub fields: Motion,
-    pub next: Place,
-}
-
-#[derive(Clone, Copy)]
 pub struct RefFrames {
     pub refmv_bank: bool,
     pub drl_reorder: u8,
     pub explicit_ref_frame_map: bool,
     pub ref_frames: u8,
     pub ref_frames_log2: u8,
-}
-
-#[derive(Clone, Copy)]
-pub struct RefFramesRead {
-    pub fields: RefFrames,
-    pub next: Place,
 }
 
 #[derive(Clone, Copy)]
@@ -52,12 +40,6 @@ pub struct Drl {
 }
 
 #[derive(Clone, Copy)]
-struct DrlRead {
-    fields: Drl,
-    next: Place,
-}
-
-#[derive(Clone, Copy)]
 pub struct Tip {
     pub tip: bool,
     pub tip_hole_fill: bool,
@@ -67,12 +49,6 @@ pub struct Tip {
     pub imp_msk_bld: bool,
     pub db_sub_pu: bool,
     pub tip_explicit_qp: bool,
-}
-
-#[derive(Clone, Copy)]
-struct TipRead {
-    fields: Tip,
-    next: Place,
 }
 
 #[derive(Clone, Copy)]
@@ -89,21 +65,9 @@ pub struct Mv {
 }
 
 #[derive(Clone, Copy)]
-struct MvRead {
-    fields: Mv,
-    next: Place,
-}
-
-#[derive(Clone, Copy)]
 pub struct Screen {
     pub screen_content_tools: AdaptiveBoolean,
     pub force_integer_mv: AdaptiveBoolean,
-}
-
-#[derive(Clone, Copy)]
-struct ScreenRead {
-    fields: Screen,
-    next: Place,
 }
 
 #[derive(Clone, Copy)]
@@ -112,12 +76,6 @@ pub struct Inter {
     pub tip: Tip,
     pub mv: Mv,
     pub screen: Screen,
-}
-
-#[derive(Clone, Copy)]
-pub struct InterRead {
-    pub fields: Inter,
-    pub next: Place,
 }
 
 fn motion_modes(m1: bool, m2: bool, m3: bool, m4: bool) -> u8
@@ -133,7 +91,7 @@ fn order_hint_bits(reduced: bool, n: u8) -> u8
     if reduced { 0 } else { n + 1 }
 }
 
-pub fn read_motion(s: &[u8], p: Place, reduced: bool) -> MotionRead
+pub fn read_motion(s: &[u8], p: Place, reduced: bool) -> Read<Motion>
     ensures { result ≡ read_motion reduced s.now p }
 {
     let m1 = flag_if(s, p, !reduced);
@@ -146,20 +104,17 @@ pub fn read_motion(s: &[u8], p: Place, reduced: bool) -> MotionRead
     let mvs = flag_if(s, masked.next, !reduced);
     let mvs_mode = small_if(s, mvs.next, 1, mvs.value);
     let hint_bits = small_if(s, mvs_mode.next, 4, !reduced);
-    let motion_modes = motion_modes(m1.value, m2.value, m3.value, m4.value);
-    let order_hint_n_bits = order_hint_bits(reduced, hint_bits.value);
-    let next = hint_bits.next;
-    MotionRead {
-        fields: Motion {
-            motion_modes,
+    Read {
+        value: Motion {
+            motion_modes: motion_modes(m1.value, m2.value, m3.value, m4.value),
             frame_motion_modes_present: frame_modes.value,
             six_param_warp_delta: six_param.value,
             masked_compound: masked.value,
             ref_frame_mvs: mvs.value,
             reduced_ref_frame_mvs_mode: mvs_mode.value,
-            order_hint_n_bits,
+            order_hint_n_bits: order_hint_bits(reduced, hint_bits.value),
         },
-        next,
+        next: hint_bits.next,
     }
 }
 
@@ -192,7 +147,7 @@ fn ref_frames_log2(reduced: bool, n: u8) -> u8
     (32 - u32::leading_zeros((n - 1) as u32)) as u8
 }
 
-pub fn read_ref_frames(s: &[u8], p: Place, reduced: bool) -> RefFramesRead
+pub fn read_ref_frames(s: &[u8], p: Place, reduced: bool) -> Read<RefFrames>
     ensures { result ≡ read_ref_frames reduced s.now p }
 {
     let bank = get_flag(s, p);
@@ -202,35 +157,31 @@ pub fn read_ref_frames(s: &[u8], p: Place, reduced: bool) -> RefFramesRead
     let sent = flag_if(s, explicit.next, !reduced);
     let count = small_if(s, sent.next, 4, sent.value);
     let frames = ref_frames(reduced, sent.value, count.value);
-    let drl_reorder = drl_reorder(off.value, constrained.value);
-    let ref_frames_log2 = ref_frames_log2(reduced, frames);
-    let next = count.next;
-    RefFramesRead {
-        fields: RefFrames {
+    Read {
+        value: RefFrames {
             refmv_bank: bank.value,
-            drl_reorder,
+            drl_reorder: drl_reorder(off.value, constrained.value),
             explicit_ref_frame_map: explicit.value,
             ref_frames: frames,
-            ref_frames_log2,
+            ref_frames_log2: ref_frames_log2(reduced, frames),
         },
-        next,
+        next: count.next,
     }
 }
 
 // A number of bits from 1 to max; 1 where it is not sent.
-fn count_if(s: &[u8], p: Place, max: u32, sent: bool) -> Small
+fn count_if(s: &[u8], p: Place, max: u32, sent: bool) -> Read<u8>
     requires { (1 ≤ max) × (max < 256) }
     ensures { result ≡ count_if sent s.now p max }
 {
     let n = uniform_if(s, p, max, sent);
-    let next = n.next;
-    Small {
+    Read {
         value: (n.value + 1) as u8,
-        next,
+        next: n.next,
     }
 }
 
-fn read_drl(s: &[u8], p: Place, reduced: bool) -> DrlRead
+fn read_drl(s: &[u8], p: Place, reduced: bool) -> Read<Drl>
     ensures { result ≡ read_drl reduced s.now p }
 {
     let lt_bits = small_if(s, p, 3, !reduced);
@@ -239,9 +190,8 @@ fn read_drl(s: &[u8], p: Place, reduced: bool) -> DrlRead
     let bvp_bits = count_if(s, frame_drl.next, 3, true);
     let max_bvp = get_flag(s, bvp_bits.next);
     let same_ref = small_if(s, max_bvp.next, 2, !reduced);
-    let next = same_ref.next;
-    DrlRead {
-        fields: Drl {
+    Read {
+        value: Drl {
             number_of_bits_for_lt_frame_id: lt_bits.value,
             def_max_drl_bits: drl_bits.value,
             allow_frame_max_drl_bits: frame_drl.value,
@@ -249,12 +199,12 @@ fn read_drl(s: &[u8], p: Place, reduced: bool) -> DrlRead
             allow_max_bvp_drl_bits: max_bvp.value,
             num_same_ref_comp: same_ref.value,
         },
-        next,
+        next: same_ref.next,
     }
 }
 
 // With tip set one further bit is read and ignored.
-fn read_tip(s: &[u8], p: Place, reduced: bool) -> TipRead
+fn read_tip(s: &[u8], p: Place, reduced: bool) -> Read<Tip>
     ensures { result ≡ read_tip reduced s.now p }
 {
     let tip = flag_if(s, p, !reduced);
@@ -266,9 +216,8 @@ fn read_tip(s: &[u8], p: Place, reduced: bool) -> TipRead
     let imp_msk_bld = flag_if(s, cwp.next, !reduced);
     let db_sub_pu = flag_if(s, imp_msk_bld.next, !reduced);
     let explicit_qp = flag_if(s, db_sub_pu.next, tip.value & db_sub_pu.value);
-    let next = explicit_qp.next;
-    TipRead {
-        fields: Tip {
+    Read {
+        value: Tip {
             tip: tip.value,
             tip_hole_fill: hole_fill.value,
             mv_traj: mv_traj.value,
@@ -278,11 +227,11 @@ fn read_tip(s: &[u8], p: Place, reduced: bool) -> TipRead
             db_sub_pu: db_sub_pu.value,
             tip_explicit_qp: explicit_qp.value,
         },
-        next,
+        next: explicit_qp.next,
     }
 }
 
-fn read_mv(s: &[u8], p: Place, reduced: bool, tip: bool) -> MvRead
+fn read_mv(s: &[u8], p: Place, reduced: bool, tip: bool) -> Read<Mv>
     ensures { result ≡ read_mv reduced tip s.now p }
 {
     let opfl = small_if(s, p, 2, !reduced);
@@ -294,9 +243,8 @@ fn read_mv(s: &[u8], p: Place, reduced: bool, tip: bool) -> MvRead
     let flex_res = flag_if(s, sign_derive.next, !reduced);
     let global = flag_if(s, flex_res.next, !reduced);
     let short_refresh = flag_if(s, global.next, !reduced);
-    let next = short_refresh.next;
-    MvRead {
-        fields: Mv {
+    Read {
+        value: Mv {
             opfl_refine: 0 < opfl.value,
             refine_mv: refine.value,
             tip_refine_mv: tip_refine.value,
@@ -307,11 +255,11 @@ fn read_mv(s: &[u8], p: Place, reduced: bool, tip: bool) -> MvRead
             global_motion: global.value,
             short_refresh_frame_flags: short_refresh.value,
         },
-        next,
+        next: short_refresh.next,
     }
 }
 
-fn read_screen(s: &[u8], p: Place, reduced: bool) -> ScreenRead
+fn read_screen(s: &[u8], p: Place, reduced: bool) -> Read<Screen>
     ensures { result ≡ read_screen reduced s.now p }
 {
     let select = flag_if(s, p, !reduced);
@@ -319,37 +267,29 @@ fn read_screen(s: &[u8], p: Place, reduced: bool) -> ScreenRead
     let sent = select.value | on.value;
     let mv_select = flag_if(s, on.next, sent);
     let mv_on = flag_if(s, mv_select.next, sent & !mv_select.value);
-    let screen_content_tools = adaptive_or(reduced | select.value, on.value);
-    let force_integer_mv = adaptive_or(!sent | mv_select.value, mv_on.value);
-    let next = mv_on.next;
-    ScreenRead {
-        fields: Screen {
-            screen_content_tools,
-            force_integer_mv,
+    Read {
+        value: Screen {
+            screen_content_tools: adaptive_or(reduced | select.value, on.value),
+            force_integer_mv: adaptive_or(!sent | mv_select.value, mv_on.value),
         },
-        next,
+        next: mv_on.next,
     }
 }
 
-pub fn read_inter(s: &[u8], p: Place, reduced: bool) -> InterRead
+pub fn read_inter(s: &[u8], p: Place, reduced: bool) -> Read<Inter>
     ensures { result ≡ read_inter reduced s.now p }
 {
     let drl = read_drl(s, p, reduced);
     let tip = read_tip(s, drl.next, reduced);
-    let mv = read_mv(s, tip.next, reduced, tip.fields.tip);
+    let mv = read_mv(s, tip.next, reduced, tip.value.tip);
     let screen = read_screen(s, mv.next, reduced);
-    let drl = drl.fields;
-    let tip = tip.fields;
-    let mv = mv.fields;
-    let next = screen.next;
-    let screen = screen.fields;
-    InterRead {
-        fields: Inter {
-            drl,
-            tip,
-            mv,
-            screen,
+    Read {
+        value: Inter {
+            drl: drl.value,
+            tip: tip.value,
+            mv: mv.value,
+            screen: screen.value,
         },
-        next,
+        next: screen.next,
     }
 }

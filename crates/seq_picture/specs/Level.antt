@@ -18,7 +18,7 @@ read_level s p =
     then (small_if (leb 4 level.value && not reduced.value) s level.next 1) λ tier.
     then (get_vlc s tier.next) λ index.
     record {
-      fields = record { reduced_still_picture_header = reduced.value; level = level.value; tier = tier.value };
+      value = record { reduced_still_picture_header = reduced.value; level = level.value; tier = tier.value };
       layout_idx = index.value;
       next = index.next;
     }
@@ -50,7 +50,7 @@ read_format index s p =
     then (layout_of index) λ layout.
     then (get_vlc s p) λ depth.
     record {
-      fields = record { layout = layout; ss_hor = ss_hor layout; ss_ver = ss_ver layout; hbd = hbd_of (depth.value % 256) };
+      value = record { layout = layout; ss_hor = ss_hor layout; ss_ver = ss_ver layout; hbd = hbd_of (depth.value % 256) };
       depth_idx = depth.value % 256;
       next = depth.next;
     }

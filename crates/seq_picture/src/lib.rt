@@ -7,7 +7,7 @@ ghost use Rattle.seq_picture.specs.Level.{read_level, layout_of, ss_hor, ss_ver,
 ghost use Rattle.seq_picture.specs.Picture.{read_layers, read_length, read_frame_size, read_crop, skip_models, layer, read_layer_list, read_dependencies, read_picture};
 
 use codes::{get_vlc, vlc_if};
-use getbits::{Place, Signed, bits_if, flag_if, get_flag, read_bits};
+use getbits::{Place, Read, bits_if, flag_if, get_flag, read_bits};
 use seq_fields::{PixelLayout, get_small, small_if};
 
 #[derive(Clone, Copy)]
@@ -19,7 +19,7 @@ pub struct Level {
 
 #[derive(Clone, Copy)]
 pub struct LevelRead {
-    pub fields: Level,
+    pub value: Level,
     pub layout_idx: u32,
     pub next: Place,
 }
@@ -34,7 +34,7 @@ pub struct Format {
 
 #[derive(Clone, Copy)]
 pub struct FormatRead {
-    pub fields: Format,
+    pub value: Format,
     pub depth_idx: u32,
     pub next: Place,
 }
@@ -49,23 +49,11 @@ pub struct Layers {
 }
 
 #[derive(Clone, Copy)]
-struct LayersRead {
-    fields: Layers,
-    next: Place,
-}
-
-#[derive(Clone, Copy)]
 pub struct FrameSize {
     pub width_n_bits: u8,
     pub height_n_bits: u8,
     pub max_width: i32,
     pub max_height: i32,
-}
-
-#[derive(Clone, Copy)]
-struct FrameSizeRead {
-    fields: FrameSize,
-    next: Place,
 }
 
 #[derive(Clone, Copy)]
@@ -75,12 +63,6 @@ pub struct CropInfo {
     pub right: u32,
     pub top: u32,
     pub bottom: u32,
-}
-
-#[derive(Clone, Copy)]
-struct CropRead {
-    fields: CropInfo,
-    next: Place,
 }
 
 #[derive(Clone, Copy)]
@@ -99,23 +81,11 @@ pub struct Dependencies {
 }
 
 #[derive(Clone, Copy)]
-struct DependenciesRead {
-    fields: Dependencies,
-    next: Place,
-}
-
-#[derive(Clone, Copy)]
 pub struct Picture {
     pub layers: Layers,
     pub size: FrameSize,
     pub crop: CropInfo,
     pub dependencies: Dependencies,
-}
-
-#[derive(Clone, Copy)]
-pub struct PictureRead {
-    pub fields: Picture,
-    pub next: Place,
 }
 
 pub fn read_level(s: &[u8], p: Place) -> LevelRead
@@ -125,15 +95,14 @@ pub fn read_level(s: &[u8], p: Place) -> LevelRead
     let level = get_small(s, reduced.next, 5);
     let tier = small_if(s, level.next, 1, (4 <= level.value) & !reduced.value);
     let index = get_vlc(s, tier.next);
-    let next = index.next;
     LevelRead {
-        fields: Level {
+        value: Level {
             reduced_still_picture_header: reduced.value,
             level: level.value,
             tier: tier.value,
         },
         layout_idx: index.value,
-        next,
+        next: index.next,
     }
 }
 
@@ -151,23 +120,13 @@ fn layout_of(index: u32) -> PixelLayout
 fn ss_hor(layout: PixelLayout) -> u8
     ensures { result ≡ ss_hor layout }
 {
-    match layout {
-        PixelLayout::I400 => 1,
-        PixelLayout::I420 => 1,
-        PixelLayout::I422 => 1,
-        PixelLayout::I444 => 0,
-    }
+    u8::from(layout != PixelLayout::I444)
 }
 
 fn ss_ver(layout: PixelLayout) -> u8
     ensures { result ≡ ss_ver layout }
 {
-    match layout {
-        PixelLayout::I400 => 1,
-        PixelLayout::I420 => 1,
-        PixelLayout::I422 => 0,
-        PixelLayout::I444 => 0,
-    }
+    u8::from(matches!(layout, PixelLayout::I400 | PixelLayout::I420))
 }
 
 fn hbd_of(index: u8) -> u8
@@ -182,77 +141,70 @@ pub fn read_format(s: &[u8], p: Place, layout_idx: u32) -> FormatRead
     let layout = layout_of(layout_idx);
     let depth = get_vlc(s, p);
     let depth_idx = depth.value % 256;
-    let ss_hor = ss_hor(layout);
-    let ss_ver = ss_ver(layout);
-    let hbd = hbd_of(depth_idx as u8);
-    let next = depth.next;
     FormatRead {
-        fields: Format {
+        value: Format {
             layout,
-            ss_hor,
-            ss_ver,
-            hbd,
+            ss_hor: ss_hor(layout),
+            ss_ver: ss_ver(layout),
+            hbd: hbd_of(depth_idx as u8),
         },
         depth_idx,
-        next,
+        next: depth.next,
     }
 }
 
-fn read_layers(s: &[u8], p: Place, reduced: bool) -> LayersRead
+fn read_layers(s: &[u8], p: Place, reduced: bool) -> Read<Layers>
     ensures is { result ≡ read_layers reduced s.now p }
-    ensures below { (result.fields.max_tlayer_id < 8) × (result.fields.max_mlayer_id < 8) }
+    ensures below { (result.value.max_tlayer_id < 8) × (result.value.max_mlayer_id < 8) }
 {
     let lcr = small_if(s, p, 3, !reduced);
     let still = flag_if(s, lcr.next, !reduced);
     let tlayer = small_if(s, still.next, 2, !reduced);
     let mlayer = small_if(s, tlayer.next, 3, !reduced);
     let monotonic = flag_if(s, mlayer.next, !reduced);
-    let next = monotonic.next;
-    LayersRead {
-        fields: Layers {
+    Read {
+        value: Layers {
             lcr_id: lcr.value,
             still_picture: reduced | still.value,
             max_tlayer_id: tlayer.value,
             max_mlayer_id: mlayer.value,
             monotonic: reduced | monotonic.value,
         },
-        next,
+        next: monotonic.next,
     }
 }
 
 // n bits are a length less 1.
-fn read_length(s: &[u8], p: Place, n: u8) -> Signed
+fn read_length(s: &[u8], p: Place, n: u8) -> Read<i32>
     requires { n ≤ 16 }
     ensures { result ≡ read_length s.now p n }
 {
     let r = read_bits(s, p, n as u32);
-    let next = r.next;
-    Signed {
+    Read {
         value: (r.value + 1) as i32,
-        next,
+        next: r.next,
     }
 }
 
-fn read_frame_size(s: &[u8], p: Place) -> FrameSizeRead
+fn read_frame_size(s: &[u8], p: Place) -> Read<FrameSize>
     ensures { result ≡ read_frame_size s.now p }
 {
     let width_bits = get_small(s, p, 4);
     let height_bits = get_small(s, width_bits.next, 4);
     let width = read_length(s, height_bits.next, width_bits.value + 1);
     let height = read_length(s, width.next, height_bits.value + 1);
-    let next = height.next;
-    FrameSizeRead {
-        fields: FrameSize {
+    Read {
+        value: FrameSize {
             width_n_bits: width_bits.value + 1,
             height_n_bits: height_bits.value + 1,
             max_width: width.value,
             max_height: height.value,
         },
-        next,
+        next: height.next,
     }
 }
 
-fn read_crop(s: &[u8], p: Place) -> CropRead
+fn read_crop(s: &[u8], p: Place) -> Read<CropInfo>
     ensures { result ≡ read_crop s.now p }
 {
     let enabled = get_flag(s, p);
@@ -260,16 +212,15 @@ fn read_crop(s: &[u8], p: Place) -> CropRead
     let right = vlc_if(s, left.next, enabled.value);
     let top = vlc_if(s, right.next, enabled.value);
     let bottom = vlc_if(s, top.next, enabled.value);
-    let next = bottom.next;
-    CropRead {
-        fields: CropInfo {
+    Read {
+        value: CropInfo {
             enabled: enabled.value,
             left: left.value,
             right: right.value,
             top: top.value,
             bottom: bottom.value,
         },
-        next,
+        next: bottom.next,
     }
 }
 
@@ -304,11 +255,10 @@ fn read_layer(s: &[u8], r: LayerList, n: usize, sent: bool) -> LayerList
     let bits = small_if(s, r.next, n as u32, sent);
     let mut dependencies = r.dependencies;
     dependencies[n] = layer_mask(sent, bits.value, n);
-    let next = bits.next;
     LayerList {
         present: r.present,
         dependencies,
-        next,
+        next: bits.next,
     }
 }
 
@@ -317,20 +267,18 @@ fn read_layer_list(s: &[u8], p: Place, max: u8) -> LayerList
     ensures { result ≡ read_layer_list max s.now p }
 {
     let sent = flag_if(s, p, 0 < max);
-    let next = sent.next;
     let mut r = LayerList {
         present: sent.value,
         dependencies: [0u8; 8],
-        next,
+        next: sent.next,
     };
-    let end = max as usize;
-    for n in 1..end {
+    for n in 1..max as usize {
         r = read_layer(s, r, n, sent.value);
     }
     r
 }
 
-fn read_dependencies(s: &[u8], p: Place, max_tlayer: u8, max_mlayer: u8) -> DependenciesRead
+fn read_dependencies(s: &[u8], p: Place, max_tlayer: u8, max_mlayer: u8) -> Read<Dependencies>
     requires { (max_tlayer ≤ 8) × (max_mlayer ≤ 8) }
     ensures { result ≡ read_dependencies max_tlayer max_mlayer s.now p }
 {
@@ -338,19 +286,18 @@ fn read_dependencies(s: &[u8], p: Place, max_tlayer: u8, max_mlayer: u8) -> Depe
     let m = read_layer_list(s, t.next, max_mlayer);
     let tlayer_dependencies = t.dependencies;
     let mlayer_dependencies = m.dependencies;
-    let next = m.next;
-    DependenciesRead {
-        fields: Dependencies {
+    Read {
+        value: Dependencies {
             tlayer_dependency_present: t.present,
             mlayer_dependency_present: m.present,
             tlayer_dependencies,
             mlayer_dependencies,
         },
-        next,
+        next: m.next,
     }
 }
 
-pub fn read_picture(s: &[u8], p: Place, reduced: bool) -> PictureRead
+pub fn read_picture(s: &[u8], p: Place, reduced: bool) -> Read<Picture>
     ensures { result ≡ read_picture reduced s.now p }
 {
     let layers = read_layers(s, p, reduced);
@@ -360,21 +307,16 @@ pub fn read_picture(s: &[u8], p: Place, reduced: bool) -> PictureRead
     let dependencies = read_dependencies(
         s,
         behind,
-        layers.fields.max_tlayer_id,
-        layers.fields.max_mlayer_id,
+        layers.value.max_tlayer_id,
+        layers.value.max_mlayer_id,
     );
-    let layers = layers.fields;
-    let size = size.fields;
-    let crop = crop.fields;
-    let next = dependencies.next;
-    let dependencies = dependencies.fields;
-    PictureRead {
-        fields: Picture {
-            layers,
-            size,
-            crop,
-            dependencies,
+    Read {
+        value: Picture {
+            layers: layers.value,
+            size: size.value,
+            crop: crop.value,
+            dependencies: dependencies.value,
         },
-        next,
+        next: dependencies.next,
     }
 }

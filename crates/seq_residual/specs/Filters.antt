@@ -7,7 +7,8 @@ use Rattle.seq_fields.specs.Fields.{get_small, bit_of}
 use Rattle.seq_fields.specs.declared.AdaptiveBoolean.{AdaptiveBoolean}
 use Rattle.seq_fields.specs.declared.AdaptiveBoolean.TheVariants.{Off, On, Adaptive}
 use Rattle.seq_residual.specs.declared.RestorationRead.{RestorationRead}
-use Rattle.seq_residual.specs.declared.FiltersRead.{FiltersRead}
+use Rattle.getbits.specs.declared.Read.{Read}
+use Rattle.seq_residual.specs.declared.Filters.{Filters}
 
 -- the Wiener filters that are off: bit 1 is the NS one, bit 0 the PC one
 abbrev pub wiener_mask : Bool → Bool → ℕ
@@ -34,7 +35,7 @@ abbrev pub on_skip_tx : Bool → Bool → AdaptiveBoolean
 on_skip_tx on off = pick on On (pick off Off Adaptive)
 
 -- loop filters
-unfoldable pub read_filters : Bool → ℕ → List ℕ → Place → FiltersRead
+unfoldable pub read_filters : Bool → ℕ → List ℕ → Place → Read Filters
 read_filters reduced sb128 s p =
     then (get_flag s p) λ across.
     then (get_flag s across.next) λ cdef.
@@ -47,7 +48,7 @@ read_filters reduced sb128 s p =
     then (flag_if (not reduced && not on.value) s on.next) λ off.
     then (get_small s off.next 2) λ parBits.
     record {
-      fields = record {
+      value = record {
         disable_loopfilters_across_tiles = across.value;
         cdef = cdef.value;
         gdf = gdf.value;

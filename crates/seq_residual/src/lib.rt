@@ -6,8 +6,8 @@ ghost use Rattle.getbits.specs.Chain.{pick};
 ghost use Rattle.seq_residual.specs.Residual.{read_transform, read_entropy, signed_if, wrapped_if, read_quant, read_residual};
 ghost use Rattle.seq_residual.specs.Filters.{wiener_mask, read_restoration, on_skip_tx, read_filters};
 
-use getbits::{Place, flag_if, get_flag};
-use seq_fields::{AdaptiveBoolean, Small, adaptive_or, bit, get_small, small_if};
+use getbits::{Place, Read, flag_if, get_flag};
+use seq_fields::{AdaptiveBoolean, adaptive_or, bit, get_small, small_if};
 
 #[derive(Clone, Copy)]
 pub struct Transform {
@@ -21,23 +21,11 @@ pub struct Transform {
 }
 
 #[derive(Clone, Copy)]
-struct TransformRead {
-    fields: Transform,
-    next: Place,
-}
-
-#[derive(Clone, Copy)]
 pub struct Entropy {
     pub tcq: AdaptiveBoolean,
     pub parity_hiding: bool,
     pub avg_cdf: bool,
     pub avg_cdf_type: u8,
-}
-
-#[derive(Clone, Copy)]
-struct EntropyRead {
-    fields: Entropy,
-    next: Place,
 }
 
 #[derive(Clone, Copy)]
@@ -53,28 +41,10 @@ pub struct Quant {
 }
 
 #[derive(Clone, Copy)]
-struct SignedSmall {
-    value: i8,
-    next: Place,
-}
-
-#[derive(Clone, Copy)]
-struct QuantRead {
-    fields: Quant,
-    next: Place,
-}
-
-#[derive(Clone, Copy)]
 pub struct Residual {
     pub transform: Transform,
     pub entropy: Entropy,
     pub quant: Quant,
-}
-
-#[derive(Clone, Copy)]
-pub struct ResidualRead {
-    pub fields: Residual,
-    pub next: Place,
 }
 
 #[derive(Clone, Copy)]
@@ -99,13 +69,7 @@ pub struct Filters {
     pub df_par_bits: u8,
 }
 
-#[derive(Clone, Copy)]
-pub struct FiltersRead {
-    pub fields: Filters,
-    pub next: Place,
-}
-
-fn read_transform(s: &[u8], p: Place, mono: bool, reduced: bool) -> TransformRead
+fn read_transform(s: &[u8], p: Place, mono: bool, reduced: bool) -> Read<Transform>
     ensures { result ≡ read_transform mono reduced s.now p }
 {
     let fsc = get_flag(s, p);
@@ -117,9 +81,8 @@ fn read_transform(s: &[u8], p: Place, mono: bool, reduced: bool) -> TransformRea
     let part_set = get_flag(s, inter_ddt.next);
     let cctx = flag_if(s, part_set.next, !mono);
     let ist = [ist0.value, ist1.value];
-    let next = cctx.next;
-    TransformRead {
-        fields: Transform {
+    Read {
+        value: Transform {
             fsc: fsc.value,
             idtx_intra: fsc.value | idtx.value,
             ist,
@@ -128,11 +91,11 @@ fn read_transform(s: &[u8], p: Place, mono: bool, reduced: bool) -> TransformRea
             reduced_tx_part_set: part_set.value,
             cctx: cctx.value,
         },
-        next,
+        next: cctx.next,
     }
 }
 
-fn read_entropy(s: &[u8], p: Place, reduced: bool) -> EntropyRead
+fn read_entropy(s: &[u8], p: Place, reduced: bool) -> Read<Entropy>
     ensures { result ≡ read_entropy reduced s.now p }
 {
     let tcq = get_flag(s, p);
@@ -142,46 +105,45 @@ fn read_entropy(s: &[u8], p: Place, reduced: bool) -> EntropyRead
     let avg_type = flag_if(s, avg.next, avg.value);
     let tcq = adaptive_or(adaptive.value, tcq.value);
     let avg_cdf_type = bit(reduced | avg_type.value);
-    let next = avg_type.next;
-    EntropyRead {
-        fields: Entropy {
+    Read {
+        value: Entropy {
             tcq,
             parity_hiding: parity.value,
             avg_cdf: reduced | avg.value,
             avg_cdf_type,
         },
-        next,
+        next: avg_type.next,
     }
 }
 
 // Five bits less 23, signed.
-fn signed_if(s: &[u8], p: Place, sent: bool) -> SignedSmall
+fn signed_if(s: &[u8], p: Place, sent: bool) -> Read<i8>
     ensures { result ≡ signed_if sent s.now p }
 {
     let n = small_if(s, p, 5, sent);
     let next = n.next;
     if sent {
-        return SignedSmall {
+        return Read {
             value: (n.value as i8) - 23,
             next,
         };
     }
-    SignedSmall { value: 0, next }
+    Read { value: 0i8, next }
 }
 
 // Five bits less 23, in a byte that wraps at 256.
-fn wrapped_if(s: &[u8], p: Place, sent: bool) -> Small
+fn wrapped_if(s: &[u8], p: Place, sent: bool) -> Read<u8>
     ensures { result ≡ wrapped_if sent s.now p }
 {
     let n = small_if(s, p, 5, sent);
     let next = n.next;
     if sent {
-        return Small {
+        return Read {
             value: std::num::wrapping_sub_u8(n.value, 23),
             next,
         };
     }
-    Small { value: 0, next }
+    Read { value: 0, next }
 }
 
 fn either(first: bool, a: u8, b: u8) -> u8
@@ -190,7 +152,7 @@ fn either(first: bool, a: u8, b: u8) -> u8
     if first { a } else { b }
 }
 
-fn read_quant(s: &[u8], p: Place, mono: bool) -> QuantRead
+fn read_quant(s: &[u8], p: Place, mono: bool) -> Read<Quant>
     ensures { result ≡ read_quant mono s.now p }
 {
     let separate = flag_if(s, p, !mono);
@@ -202,9 +164,8 @@ fn read_quant(s: &[u8], p: Place, mono: bool) -> QuantRead
     let uvac = wrapped_if(s, uvdc_on.next, !mono);
     let uvac_on = flag_if(s, uvac.next, !mono);
     let base_uvdc_dq = either(equal.value, uvac.value, uvdc.value);
-    let next = uvac_on.next;
-    QuantRead {
-        fields: Quant {
+    Read {
+        value: Quant {
             separate_uv_delta_q: separate.value,
             equal_ac_dc_q: equal.value,
             base_ydc_dq: ydc.value,
@@ -214,25 +175,22 @@ fn read_quant(s: &[u8], p: Place, mono: bool) -> QuantRead
             base_uvac_dq: uvac.value,
             uvac_dq_enabled: uvac_on.value,
         },
-        next,
+        next: uvac_on.next,
     }
 }
 
-pub fn read_residual(s: &[u8], p: Place, mono: bool, reduced: bool) -> ResidualRead
+pub fn read_residual(s: &[u8], p: Place, mono: bool, reduced: bool) -> Read<Residual>
     ensures { result ≡ read_residual mono reduced s.now p }
 {
     let transform = read_transform(s, p, mono, reduced);
     let entropy = read_entropy(s, transform.next, reduced);
     let quant = read_quant(s, entropy.next, mono);
-    let transform = transform.fields;
-    let entropy = entropy.fields;
     let next = quant.next;
-    let quant = quant.fields;
-    ResidualRead {
-        fields: Residual {
-            transform,
-            entropy,
-            quant,
+    Read {
+        value: Residual {
+            transform: transform.value,
+            entropy: entropy.value,
+            quant: quant.value,
         },
         next,
     }
@@ -256,12 +214,11 @@ fn read_restoration(s: &[u8], p: Place) -> RestorationRead
     let own = wiener_mask(no_ns_uv.value, restoration.value);
     let shared = wiener_mask(no_ns.value, restoration.value);
     let uv_mask = either(separate.value, own, shared);
-    let next = no_ns_uv.next;
     RestorationRead {
         restoration: restoration.value,
         mask,
         uv_mask,
-        next,
+        next: no_ns_uv.next,
     }
 }
 
@@ -278,7 +235,7 @@ fn on_skip_tx(on: bool, off: bool) -> AdaptiveBoolean
     }
 }
 
-pub fn read_filters(s: &[u8], p: Place, reduced: bool, sb128: u8) -> FiltersRead
+pub fn read_filters(s: &[u8], p: Place, reduced: bool, sb128: u8) -> Read<Filters>
     ensures { result ≡ read_filters reduced sb128 s.now p }
 {
     let across = get_flag(s, p);
@@ -293,9 +250,8 @@ pub fn read_filters(s: &[u8], p: Place, reduced: bool, sb128: u8) -> FiltersRead
     let par_bits = get_small(s, off.next, 2);
     let rst_disable_mask = [rst.mask, rst.uv_mask];
     let cdef_on_skiptx = on_skip_tx(on.value, off.value);
-    let next = par_bits.next;
-    FiltersRead {
-        fields: Filters {
+    Read {
+        value: Filters {
             disable_loopfilters_across_tiles: across.value,
             cdef: cdef.value,
             gdf: gdf.value,
@@ -307,6 +263,6 @@ pub fn read_filters(s: &[u8], p: Place, reduced: bool, sb128: u8) -> FiltersRead
             cdef_on_skiptx,
             df_par_bits: 2 + par_bits.value,
         },
-        next,
+        next: par_bits.next,
     }
 }

@@ -1,10 +1,9 @@
 // Reads a sequence header from standard input, and prints its fields.
 #![tactic(auto)]
 
-ghost use Rattle.std.specs.Prelude.{[], ◌∷◌, ◌++◌, ◌≡◌, ◌+◌, length, take};
-ghost use Rattle.program.specs.Input.{IsPrefixLen};
+ghost use Rattle.std.specs.Prelude.{[], ◌∷◌, ◌++◌, ◌≡◌, ◌+◌, ◌≤◌, length};
 ghost use Rattle.program.specs.Output.{starts_text};
-ghost use Rattle.text.specs.Text.{Put, nexts, line};
+ghost use Rattle.text.specs.Text.{put, nexts, line};
 ghost use Rattle.seqhdr.specs.Fields.{opening_text, size_text, tools_text, filters_text, fields_text};
 ghost use Rattle.seqhdr.specs.Fields.{columns_text, rows_text, seq_layout_text, header_text};
 ghost use Rattle.seqhdr.specs.Print.{seq_accepted_text, seq_read_text, seqhdr_text};
@@ -17,7 +16,7 @@ use program::{put_ok, put_refusal, read_full, report_written};
 use seq_hdr::{SeqRead, parse_seq_hdr};
 use seq_record::{SequenceHeader, no_seq_hdr};
 use std::io;
-use text::{put_filled, put_line, put_row, put_word};
+use text::Text;
 use tile_layout::TileInfo;
 
 fn is_request(s: &[u8]) -> bool
@@ -50,12 +49,11 @@ fn request(s: &[u8]) -> SeqRead
 }
 
 // The start, the level, the format, layers and their dependencies.
-fn put_opening(out: &mut [u8], at: usize, xs: &[i64]) -> usize
-    ensures { Put 6111 out.old at (opening_text xs.now) out.new result }
+fn put_opening<const N: usize>(out: &mut Text<N>, xs: &[i64])
+    ensures text { out.new ≡ put N out.old (opening_text xs.now) }
+    ensures size { length (opening_text xs.now) ≤ 6111 }
 {
-    let first = put_filled(
-        out,
-        at,
+    out.push_filled(
         b"id #\n\
           profile #\n\
           reduced_still_picture_header #\n\
@@ -72,9 +70,7 @@ fn put_opening(out: &mut [u8], at: usize, xs: &[i64]) -> usize
         xs,
         0,
     );
-    let second = put_filled(
-        out,
-        first,
+    out.push_filled(
         b"tlayer_dependency_present #\n\
           mlayer_dependency_present #\n\
           tlayer_dependencies # # # # # # # #\n\
@@ -82,32 +78,27 @@ fn put_opening(out: &mut [u8], at: usize, xs: &[i64]) -> usize
         xs,
         23,
     );
-    put_filled(out, second, b"monotonic #\n", xs, 13)
+    out.push_filled(b"monotonic #\n", xs, 13);
 }
 
 // The frame size and the crop window.
-fn put_size(out: &mut [u8], at: usize, xs: &[i64]) -> usize
-    ensures { Put 2541 out.old at (size_text xs.now) out.new result }
+fn put_size<const N: usize>(out: &mut Text<N>, xs: &[i64])
+    ensures text { out.new ≡ put N out.old (size_text xs.now) }
+    ensures size { length (size_text xs.now) ≤ 2541 }
 {
-    let first = put_filled(
-        out,
-        at,
+    out.push_filled(
         b"max_width #\n\
           max_height #\n",
         xs,
         16,
     );
-    let second = put_filled(
-        out,
-        first,
+    out.push_filled(
         b"width_n_bits #\n\
           height_n_bits #\n",
         xs,
         14,
     );
-    put_filled(
-        out,
-        second,
+    out.push_filled(
         b"crop.enabled #\n\
           crop.left #\n\
           crop.right #\n\
@@ -115,16 +106,15 @@ fn put_size(out: &mut [u8], at: usize, xs: &[i64]) -> usize
           crop.bottom #\n",
         xs,
         18,
-    )
+    );
 }
 
 // Blocks, inter tools, transforms and entropy coding.
-fn put_tools(out: &mut [u8], at: usize, xs: &[i64]) -> usize
-    ensures { Put 24549 out.old at (tools_text xs.now) out.new result }
+fn put_tools<const N: usize>(out: &mut Text<N>, xs: &[i64])
+    ensures text { out.new ≡ put N out.old (tools_text xs.now) }
+    ensures size { length (tools_text xs.now) ≤ 24549 }
 {
-    let first = put_filled(
-        out,
-        at,
+    out.push_filled(
         b"sb128 #\n\
           sdp #\n\
           ext_sdp #\n\
@@ -148,9 +138,7 @@ fn put_tools(out: &mut [u8], at: usize, xs: &[i64]) -> usize
         xs,
         41,
     );
-    let second = put_filled(
-        out,
-        first,
+    out.push_filled(
         b"motion_modes #\n\
           frame_motion_modes_present #\n\
           six_param_warp_delta #\n\
@@ -191,9 +179,7 @@ fn put_tools(out: &mut [u8], at: usize, xs: &[i64]) -> usize
         xs,
         76,
     );
-    put_filled(
-        out,
-        second,
+    out.push_filled(
         b"fsc #\n\
           idtx_intra #\n\
           ist # #\n\
@@ -207,16 +193,15 @@ fn put_tools(out: &mut [u8], at: usize, xs: &[i64]) -> usize
           avg_cdf_type #\n",
         xs,
         113,
-    )
+    );
 }
 
 // Loop filters, quantisation, and whether a layout is present.
-fn put_filters(out: &mut [u8], at: usize, xs: &[i64]) -> usize
-    ensures { Put 6762 out.old at (filters_text xs.now) out.new result }
+fn put_filters<const N: usize>(out: &mut Text<N>, xs: &[i64])
+    ensures text { out.new ≡ put N out.old (filters_text xs.now) }
+    ensures size { length (filters_text xs.now) ≤ 6762 }
 {
-    let first = put_filled(
-        out,
-        at,
+    out.push_filled(
         b"disable_loopfilters_across_tiles #\n\
           cdef #\n\
           gdf #\n\
@@ -230,9 +215,7 @@ fn put_filters(out: &mut [u8], at: usize, xs: &[i64]) -> usize
         xs,
         133,
     );
-    let second = put_filled(
-        out,
-        first,
+    out.push_filled(
         b"separate_uv_delta_q #\n\
           equal_ac_dc_q #\n\
           base_ydc_dq #\n\
@@ -244,115 +227,120 @@ fn put_filters(out: &mut [u8], at: usize, xs: &[i64]) -> usize
         xs,
         125,
     );
-    put_filled(out, second, b"tiling.present #\n", xs, 144)
+    out.push_filled(b"tiling.present #\n", xs, 144);
 }
 
 // All of the header's numbers but the layout and the last.
-fn put_fields(out: &mut [u8], at: usize, xs: &[i64]) -> usize
-    ensures { Put 39963 out.old at (fields_text xs.now) out.new result }
+#[tactic(auto, using(text::proofs::Puts::puts), unfolding(crate::specs::Fields::fields_text))]
+fn put_fields<const N: usize>(out: &mut Text<N>, xs: &[i64])
+    ensures text { out.new ≡ put N out.old (fields_text xs.now) }
+    ensures size { length (fields_text xs.now) ≤ 39963 }
 {
-    let opening = put_opening(out, at, xs);
-    let size = put_size(out, opening, xs);
-    let tools = put_tools(out, size, xs);
-    put_filters(out, tools, xs)
+    put_opening(out, xs);
+    put_size(out, xs);
+    put_tools(out, xs);
+    put_filters(out, xs);
 }
 
 // A name and 65 starts.
-fn put_starts(out: &mut [u8], at: usize, name: &[u8], starts: &[u16; 65]) -> usize
-    ensures { Put (length name.now + 1366) out.old at
-        (name.now ++ starts_text starts.now 65) out.new result }
+#[tactic(auto, using(text::proofs::Puts::puts))]
+fn put_starts<const N: usize>(out: &mut Text<N>, name: &[u8], starts: &[u16; 65])
+    ensures text { out.new ≡ put N out.old (name.now ++ starts_text starts.now 65) }
+    ensures size { length (name.now ++ starts_text starts.now 65) ≤ length name.now + 1366 }
 {
-    let next = put_word(out, at, name);
-    put_row(out, next, starts, 65)
+    out.push_word(name);
+    out.push_row(starts, 65);
 }
 
 // A name and a number.
-fn put_field(out: &mut [u8], at: usize, name: &[u8], n: u64) -> usize
-    ensures { Put (length name.now + 22) out.old at (line (name.now ++ nexts (n ∷ []))) out.new result }
+fn put_field<const N: usize>(out: &mut Text<N>, name: &[u8], n: u64)
+    ensures text { out.new ≡ put N out.old (line (name.now ++ nexts (n ∷ []))) }
+    ensures size { length (line (name.now ++ nexts (n ∷ []))) ≤ length name.now + 22 }
 {
-    put_line(out, at, name, &[n])
+    out.push_line(name, &[n]);
 }
 
-fn put_columns(out: &mut [u8], at: usize, t: TileInfo) -> usize
-    ensures { Put 201 out.old at (columns_text t) out.new result }
+#[tactic(auto, using(text::proofs::Puts::puts), unfolding(crate::specs::Fields::columns_text, text::specs::Text::word))]
+fn put_columns<const N: usize>(out: &mut Text<N>, t: &TileInfo)
+    ensures text { out.new ≡ put N out.old (columns_text t.now) }
+    ensures size { length (columns_text t.now) ≤ 201 }
 {
-    let uniform = put_field(out, at, b"tiling.t.uniform", t.uniform as u64);
-    let min = put_field(
-        out,
-        uniform,
-        b"tiling.t.min_log2_cols",
-        t.min_log2_cols as u64,
-    );
-    let max = put_field(out, min, b"tiling.t.max_log2_cols", t.max_log2_cols as u64);
-    let log = put_field(out, max, b"tiling.t.log2_cols", t.log2_cols as u64);
-    put_field(out, log, b"tiling.t.cols", t.cols as u64)
+    put_field(out, b"tiling.t.uniform", u64::from(t.uniform));
+    put_field(out, b"tiling.t.min_log2_cols", u64::from(t.min_log2_cols));
+    put_field(out, b"tiling.t.max_log2_cols", u64::from(t.max_log2_cols));
+    put_field(out, b"tiling.t.log2_cols", u64::from(t.log2_cols));
+    put_field(out, b"tiling.t.cols", u64::from(t.cols));
 }
 
-fn put_rows(out: &mut [u8], at: usize, t: TileInfo) -> usize
-    ensures { Put 163 out.old at (rows_text t) out.new result }
+#[tactic(auto, using(text::proofs::Puts::puts), unfolding(crate::specs::Fields::rows_text, text::specs::Text::word))]
+fn put_rows<const N: usize>(out: &mut Text<N>, t: &TileInfo)
+    ensures text { out.new ≡ put N out.old (rows_text t.now) }
+    ensures size { length (rows_text t.now) ≤ 163 }
 {
-    let min = put_field(out, at, b"tiling.t.min_log2_rows", t.min_log2_rows as u64);
-    let max = put_field(out, min, b"tiling.t.max_log2_rows", t.max_log2_rows as u64);
-    let log = put_field(out, max, b"tiling.t.log2_rows", t.log2_rows as u64);
-    put_field(out, log, b"tiling.t.rows", t.rows as u64)
+    put_field(out, b"tiling.t.min_log2_rows", u64::from(t.min_log2_rows));
+    put_field(out, b"tiling.t.max_log2_rows", u64::from(t.max_log2_rows));
+    put_field(out, b"tiling.t.log2_rows", u64::from(t.log2_rows));
+    put_field(out, b"tiling.t.rows", u64::from(t.rows));
 }
 
-fn put_layout(out: &mut [u8], at: usize, t: TileInfo) -> usize
-    ensures { Put 3140 out.old at (seq_layout_text t) out.new result }
+#[tactic(auto, using(text::proofs::Puts::puts), unfolding(crate::specs::Fields::seq_layout_text, text::specs::Text::word))]
+fn put_layout<const N: usize>(out: &mut Text<N>, t: &TileInfo)
+    ensures text { out.new ≡ put N out.old (seq_layout_text t.now) }
+    ensures size { length (seq_layout_text t.now) ≤ 3140 }
 {
-    let cols = t.col_start_sb;
-    let rows = t.row_start_sb;
-    let first = put_columns(out, at, t);
-    let second = put_rows(out, first, t);
-    let third = put_starts(out, second, b"tiling.t.col_start_sb ", &cols);
-    put_starts(out, third, b"tiling.t.row_start_sb ", &rows)
+    put_columns(out, t);
+    put_rows(out, t);
+    put_starts(out, b"tiling.t.col_start_sb ", &t.col_start_sb);
+    put_starts(out, b"tiling.t.row_start_sb ", &t.row_start_sb);
 }
 
 // The fields in the order of the Rust's declaration.
-fn put_header(out: &mut [u8], at: usize, hdr: SequenceHeader) -> usize
-    ensures { Put 43544 out.old at (header_text hdr) out.new result }
+fn put_header<const N: usize>(out: &mut Text<N>, hdr: SequenceHeader)
+    ensures text { out.new ≡ put N out.old (header_text hdr) }
+    ensures size { length (header_text hdr) ≤ 43544 }
 {
     let mut flat = [0i64; 146];
     put_seq_hdr(hdr, &mut flat);
-    let tiling = hdr.tiling;
-    let t = tiling.t;
-    let first = put_fields(out, at, &flat);
-    let second = put_layout(out, first, t);
-    put_filled(out, second, b"film_grain_present #\n", &flat, 145)
+    put_fields(out, &flat);
+    put_layout(out, &hdr.tiling.t);
+    out.push_filled(b"film_grain_present #\n", &flat, 145);
 }
 
-fn put_seq_accepted(out: &mut [u8], hdr: SequenceHeader, next: Place) -> usize
-    ensures { Put 43589 out.old 0 (seq_accepted_text hdr next) out.new result }
+#[tactic(auto, using(text::proofs::Puts::puts), unfolding(crate::specs::Print::seq_accepted_text))]
+fn put_seq_accepted<const N: usize>(out: &mut Text<N>, hdr: SequenceHeader, next: Place)
+    ensures text { out.new ≡ put N out.old (seq_accepted_text hdr next) }
+    ensures size { length (seq_accepted_text hdr next) ≤ 43589 }
 {
-    let head = put_ok(out, next);
-    put_header(out, head, hdr)
+    put_ok(out, next);
+    put_header(out, hdr);
 }
 
-fn put_read(out: &mut [u8], r: SeqRead) -> usize
-    ensures { Put 43589 out.old 0 (seq_read_text r) out.new result }
+#[tactic(auto, unfolding(crate::specs::Print::seq_read_text))]
+fn put_read<const N: usize>(out: &mut Text<N>, r: &SeqRead)
+    ensures text { out.new ≡ put N out.old (seq_read_text r.now) }
+    ensures size { length (seq_read_text r.now) ≤ 43589 }
 {
-    let answer = r.answer;
-    let next = r.next;
-    if is_refusal(answer) {
-        return put_refusal(out, number(answer), next);
+    if is_refusal(r.answer) {
+        put_refusal(out, number(r.answer), r.next);
+    } else {
+        put_seq_accepted(out, r.hdr, r.next);
     }
-    let hdr = r.hdr;
-    put_seq_accepted(out, hdr, next)
 }
 
 // From the input's bytes to the output's.
-fn seqhdr_text(input: &[u8], out: &mut [u8; 43589]) -> usize
-    ensures prefix_len { IsPrefixLen result out.new }
-    ensures out_after { take result out.new ≡ seqhdr_text input.now }
+#[tactic(auto, using(text::proofs::Puts::put_fits), unfolding(crate::specs::Print::seqhdr_text))]
+fn seqhdr_text(input: &[u8]) -> Text<43589>
+    ensures { result ≡ seqhdr_text input.now }
 {
-    put_read(out, request(input))
+    let mut out = Text::new();
+    put_read(&mut out, &request(input));
+    out
 }
 
 fn main(rt: HostRuntime) -> io::Result<()> {
     let mut input = [0u8; 65537];
     let n = read_full(&mut rt.reader(), &mut input)?;
-    let mut out = [0u8; 43589];
-    let k = seqhdr_text(&input[..n], &mut out);
-    report_written(&rt, rt.write_all(&out[..k]).is_ok());
+    let out = seqhdr_text(&input[..n]);
+    report_written(&rt, rt.write_all(out.as_slice()).is_ok());
     Ok(())
 }

@@ -9,11 +9,7 @@ use Rattle.getbits.specs.declared.Place.{Place}
 use Rattle.tile_layout.proofs.Domain.{Pair, pairs}
 use Rattle.superblocks.specs.Counts.{multiplier_of}
 
--- the product of two numbers of 32 bits fits 64
-pub product_fits : {a b : ℕ} → a < 2 ^ 32 → b < 2 ^ 32 → a * b < 2 ^ 64
-product_fits {a} {b} ha hb = lt_of_le_of_lt (mul-le-mul {n₂ = 4294967295} {m₂ = 4294967295} (omega arith) (omega arith)) (lit< tt)
-
--- so does a quotient by a superblock's size, 32
+-- a quotient by a superblock's size fits 32 bits
 pub quotient_fits : (x s : ℕ) → x < 2 ^ 33 → 64 ≤ s → x / s < 2 ^ 32
 quotient_fits x s h k = lt_of_le_of_lt (div-le_of_le-mul s {n = 134217728} (omega arith)) (lit< tt)
 

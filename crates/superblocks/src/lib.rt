@@ -10,7 +10,7 @@ ghost use Rattle.tile_layout.specs.Layout.{base, count, larger};
 ghost use Rattle.superblocks.specs.Counts.{multiplier_of, size_of, fits_uniform};
 
 use codes::get_uniform;
-use getbits::{Place, power};
+use getbits::{Place, Read, power};
 use tile_layout::start_at;
 
 mod quotient;
@@ -55,13 +55,6 @@ pub struct SizeNumber {
     pub value: u32,
 }
 
-// The size of a column or a row, and the place behind it.
-#[derive(Clone, Copy)]
-pub struct TileSize {
-    pub size: FrameSb,
-    pub next: Place,
-}
-
 // How many of the frame's superblocks one of the sequence's is wide.
 pub fn multiplier_of(frame_code: u8, seq_code: u8) -> u32
     ensures { (result ≡ multiplier_of frame_code seq_code) × (result ≤ 2) }
@@ -73,24 +66,6 @@ pub fn multiplier_of(frame_code: u8, seq_code: u8) -> u32
     }
 }
 
-fn u32_to_u64(x: u32) -> u64
-    ensures { result ≡ x }
-{
-    x as u64
-}
-
-fn umin(a: u32, b: u32) -> u32
-    ensures { result ≡ min a b }
-{
-    if a < b { a } else { b }
-}
-
-fn umax(a: u32, b: u32) -> u32
-    ensures { result ≡ max a b }
-{
-    if a < b { b } else { a }
-}
-
 // n / 2 ^ log2, for a logarithm below 32.
 fn shifted(n: u32, log2: u8) -> u32
     ensures { result ≡ n / 2 ^ (log2 % 32) }
@@ -98,25 +73,11 @@ fn shifted(n: u32, log2: u8) -> u32
     n >> (log2 % 32) as u32
 }
 
-// At most 2 ^ 32 - 1.
-fn cut(n: u64) -> u32
-    ensures { result ≡ min n 4294967295 }
-{
-    if n < 4294967295 { n as u32 } else { 4294967295 }
-}
-
-// A code above 2 counts as 2.
-fn low_code(code: u8) -> u8
-    ensures { result ≡ min code 2 }
-{
-    if code < 2 { code } else { 2 }
-}
-
-// The logarithm of a superblock's size in samples.
+// The logarithm of a superblock's size in samples. A code above 2 counts as 2.
 fn sbsz_log2(code: u8) -> u32
     ensures { (2 ^ result ≡ size_of code) × (6 ≤ result) × (result ≤ 8) }
 {
-    6 + low_code(code) as u32
+    6 + u32::from(code.min(2))
 }
 
 // n samples in superblocks of a size, rounded down.
@@ -132,14 +93,7 @@ fn sb_count(n: u32, code: u8) -> u32
     ensures { result ≡ superblocks n (min code 2) }
 {
     let sbsz_min1 = power(sbsz_log2(code)) - 1;
-    whole_sbs(u32_to_u64(n) + u32_to_u64(sbsz_min1), code)
-}
-
-// a - b, or 0 where b is larger.
-fn usub(a: u32, b: u32) -> u32
-    ensures { result ≡ a - b }
-{
-    if a < b { 0 } else { a - b }
+    whole_sbs(u64::from(n) + u64::from(sbsz_min1), code)
 }
 
 // The least k with sz * 2 ^ k at least tgt: as many bits as tgt is longer, or one more.
@@ -147,7 +101,7 @@ fn tile_log2(sz: u32, tgt: u32) -> u8
     requires { (1 ≤ sz) × (tgt ≤ 1048576) }
     ensures { result ≡ tile_log2 sz tgt }
 {
-    let k = usub(u32::leading_zeros(sz), u32::leading_zeros(tgt));
+    let k = sz.leading_zeros().saturating_sub(tgt.leading_zeros());
     if sz << k < tgt {
         return (k + 1) as u8;
     }
@@ -158,7 +112,7 @@ fn tile_log2(sz: u32, tgt: u32) -> u8
 fn held_log2(sz: u32, tgt: u32) -> u8
     ensures { result ≡ tile_log2 (max 1 sz) (min tgt 1048576) }
 {
-    tile_log2(umax(1, sz), umin(tgt, 1_048_576))
+    tile_log2(sz.max(1), tgt.min(1_048_576))
 }
 
 // The logarithm of a number of tiles, rounded up.
@@ -203,7 +157,7 @@ impl Pair {
     pub fn full_count(self, n: u32) -> SeqSb
         ensures { result.0 ≡ max 1 ((n + 7) / size_of self.seq_code) }
     {
-        SeqSb(umax(1, whole_sbs(u32_to_u64(n) + 7, self.seq_code)))
+        SeqSb(whole_sbs(u64::from(n) + 7, self.seq_code).max(1))
     }
 
     // The frame's superblocks that n samples hold.
@@ -238,7 +192,7 @@ impl SeqSb {
     pub fn plus(self, b: SeqSb) -> SeqSb
         ensures { result.0 ≡ (self.0 + b.0) % 4294967296 }
     {
-        SeqSb(std::num::wrapping_add_u32(self.0, b.0))
+        SeqSb(self.0.wrapping_add(b.0))
     }
 
     // The multiplier turns a count of the sequence's superblocks into one of the frame's.
@@ -246,7 +200,7 @@ impl SeqSb {
         ensures { result.0 ≡ multiplier_of pair.frame_code pair.seq_code * self.0 % 4294967296 }
     {
         if pair.doubles() {
-            return FrameSb(std::num::wrapping_add_u32(self.0, self.0));
+            return FrameSb(self.0.wrapping_add(self.0));
         }
         FrameSb(self.0)
     }
@@ -269,23 +223,20 @@ impl FrameSb {
     pub fn plus(self, b: FrameSb) -> FrameSb
         ensures { result.0 ≡ (self.0 + b.0) % 4294967296 }
     {
-        FrameSb(std::num::wrapping_add_u32(self.0, b.0))
+        FrameSb(self.0.wrapping_add(b.0))
     }
 
     // 0 where b is larger.
     pub fn minus(self, b: FrameSb) -> FrameSb
         ensures { result.0 ≡ self.0 - b.0 }
     {
-        if self.0 < b.0 {
-            return FrameSb(0);
-        }
-        FrameSb(self.0 - b.0)
+        FrameSb(self.0.saturating_sub(b.0))
     }
 
     pub fn most(self, b: FrameSb) -> FrameSb
         ensures { result.0 ≡ max self.0 b.0 }
     {
-        FrameSb(umax(self.0, b.0))
+        FrameSb(self.0.max(b.0))
     }
 
     pub fn below(self, b: FrameSb) -> bool
@@ -298,7 +249,9 @@ impl FrameSb {
     pub fn times(self, rows: FrameSb) -> AreaSb
         ensures { result.0 ≡ min (self.0 * rows.0) 4294967295 }
     {
-        AreaSb(cut(u32_to_u64(self.0) * u32_to_u64(rows.0)))
+        // saturating_mul would divide.
+        let area = u64::from(self.0) * u64::from(rows.0);
+        AreaSb(area.min(u64::from(u32::MAX)) as u32)
     }
 
     // The least logarithm by which tiles of at most this size reach `all`.
@@ -326,15 +279,15 @@ impl FrameSb {
     pub fn max_log2(self) -> u8
         ensures { result ≡ tile_log2 1 (min self.0 64) }
     {
-        tile_log2(1, umin(self.0, 64))
+        tile_log2(1, self.0.min(64))
     }
 
     // Does the last of 2 ^ log2 even tiles begin inside?
     pub fn fits_uniform(self, log2: u8) -> bool
         ensures { result ≡ fits_uniform (log2 % 32) self.0 }
     {
-        let tiles = u32_to_u64(power(log2 as u32));
-        let n = u32_to_u64(self.0);
+        let tiles = u64::from(power(log2 as u32));
+        let n = u64::from(self.0);
         let tile = (n + (tiles - 1)) >> (log2 % 32) as u32;
         tile * (tiles - 1) < n
     }
@@ -355,7 +308,7 @@ impl AreaSb {
         if widest_tile.0 == 0 {
             return FrameSb(1);
         }
-        FrameSb(umax(1, quotient(shifted(self.0, log2), widest_tile.0)))
+        FrameSb(quotient(shifted(self.0, log2), widest_tile.0).max(1))
     }
 }
 
@@ -383,14 +336,14 @@ pub fn seq_start(starts: &[u16], i: u8) -> SeqSb
 }
 
 // One size, where `rest` superblocks remain.
-pub fn read_size(s: &[u8], p: Place, rest: FrameSb, limit: FrameSb) -> TileSize
-    ensures { (result.size.0 ≡ (get_uniform s.now p (min rest.0 limit.0)).value + 1)
+pub fn read_size(s: &[u8], p: Place, rest: FrameSb, limit: FrameSb) -> Read<FrameSb>
+    ensures { (result.value.0 ≡ (get_uniform s.now p (min rest.0 limit.0)).value + 1)
         × (result.next ≡ (get_uniform s.now p (min rest.0 limit.0)).next) }
 {
-    let g = get_uniform(s, p, umin(rest.0, limit.0));
+    let g = get_uniform(s, p, rest.0.min(limit.0));
     let next = g.next;
-    TileSize {
-        size: FrameSb(g.value + 1),
+    Read {
+        value: FrameSb(g.value + 1),
         // Field by field: a place copied whole is loaded before its parts have left the store buffer.
         next: Place {
             byte: next.byte,
@@ -414,8 +367,8 @@ pub fn size_number(size: FrameSb, rest: FrameSb, limit: FrameSb) -> SizeNumber
     ensures { (result.max ≡ min rest.0 limit.0) × (result.value ≡ size.0 - 1) }
 {
     SizeNumber {
-        max: umin(rest.0, limit.0),
-        value: umax(1, size.0) - 1,
+        max: rest.0.min(limit.0),
+        value: size.0.saturating_sub(1),
     }
 }
 

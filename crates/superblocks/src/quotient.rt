@@ -27,11 +27,10 @@ pub fn quotient(n: u32, d: u32) -> u32
     requires { 1 ≤ d }
     ensures { result ≡ n / d }
 {
-    let mut k = quotient_bits(n, d);
-    let mut q = 0xFFFF_FFFF >> (32 - k);
+    let bits = quotient_bits(n, d);
+    let mut q = 0xFFFF_FFFF >> (32 - bits);
     let mut left = n;
-    while 0 < k {
-        k -= 1;
+    for k in (0..bits).rev() {
         let part = d << k;
         if part <= left {
             left -= part;

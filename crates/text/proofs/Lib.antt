@@ -2,3 +2,4 @@ pub mod Puts
 pub mod Digits
 pub mod Rows
 pub mod Filled
+pub mod Chains

@@ -1,66 +1,47 @@
--- One law for all that is put: a after which b is put is a ++ b. Assumes nothing.
-use mathlib.Core.List.{List, [], ◌∷◌, ◌++◌}
-use mathlib.Core.Logic.{⊎_elim}
+-- The laws of what is put. Assumes nothing.
+use mathlib.Core.List.{List, [], ◌∷◌, ◌++◌, append_assoc, append-nil}
 use mathlib.Core.Path.{◌≡◌, refl, sym, ap, ◌∙◌}
-use Prim.Native.Nat.{ℕ, suc, ◌+◌, ◌≤◌}
+use Prim.Native.Nat.{ℕ, zero, suc, ◌+◌, ◌-◌, ◌<◌, ◌≤◌}
+use native.Mathlib.Numerals.{unary_clauses}
 use native.Mathlib.Omega.{arith}
-use Rattle.getbits.proofs.Places.{lt_or_le}
-use Rattle.getbits.proofs.Stores.{sets_append}
-use lib.ListN.{length, take, length-append}
-use lib.Seq.{sets, set_out, length-sets, sets-eq, take_at, length-take-le}
-use Rattle.text.specs.Text.{behind, Put}
+use lib.ListN.{length, take, set, length-append}
+use lib.Seq.{take_all, take-nil}
+use Rattle.std.proofs.lemmas.Grind.{common_steps}
+use Rattle.std.proofs.lemmas.List.{take_more_set, length-take-le}
+use Rattle.text.specs.Text.{put}
 
--- bytes past the end are dropped
-pub sets_out : (l : List ℕ) (i : ℕ) (vs : List ℕ) → length l ≤ i → sets l i vs ≡ l
-sets_out l i [] h = refl
-sets_out l i (v ∷ vs) h = rw (set_out l i v h) (sets_out l (suc i) vs (omega arith))
+-- what has no room is dropped
+take_take : (k : ℕ) (a b : List ℕ) → take k a ++ take (k - length (take k a)) b ≡ take k (a ++ b)
+take_take zero a b = refl
+take_take (suc k) [] b = simp unary_clauses
+take_take (suc k) (x ∷ a) b = simp unary_clauses (ap (λ (l : List ℕ). x ∷ l) (take_take k a b))
 
--- nothing is put
-pub none : (l : List ℕ) (i : ℕ) → Put 0 l i [] l i
-unfolding behind
-none l i = record { text = refl; place = omega arith; size = omega arith }
+-- a after which b is put is a ++ b
+pub put-put : (n : ℕ) (t a b : List ℕ) → put n (put n t a) b ≡ put n t (a ++ b)
+unfolding put
+put-put n t a b =
+    let k : n - length (t ++ take (n - length t) a) ≡ (n - length t) - length (take (n - length t) a) = omega (arith, length-append t (take (n - length t) a)) in
+    rw k (append_assoc t _ _ ∙ ap (λ (l : List ℕ). t ++ l) (take_take (n - length t) a b))
 
--- the buffer keeps its length
-pub kept : {m : ℕ} {l : List ℕ} {i : ℕ} {a : List ℕ} {l1 : List ℕ} {j : ℕ} → Put m l i a l1 j → length l1 ≡ length l
-kept {m} {l} {i} {a} p = ap length p.text ∙ length-sets l i a
+pub put-nil : (n : ℕ) (t : List ℕ) → put n t [] ≡ t
+unfolding put
+put-nil n t = grind (arith, common_steps)
 
--- where a does not fit, what is put behind it is dropped
-rest : {m : ℕ} {l : List ℕ} {i : ℕ} {a : List ℕ} {l1 : List ℕ} {j : ℕ} → Put m l i a l1 j → (b : List ℕ) → sets l1 j b ≡ sets l1 (i + length a) b
-unfolding behind
-rest {m} {l} {i} {a} {l1} {j} p b =
-    let same = kept p in
-    ⊎_elim (λ h. sets_out l1 j b (omega arith) ∙ sym (sets_out l1 (i + length a) b (omega arith)))
-    (λ h. ap (λ (x : ℕ). sets l1 x b) (omega arith))
-    (lt_or_le (length l) (i + length a))
+-- a text that fits is what stands there
+pub put_fits : (n : ℕ) (a : List ℕ) → length a ≤ n → put n [] a ≡ a
+unfolding put
+put_fits n a h = simp unary_clauses (take_all n a h)
 
-pub also : {m n : ℕ} {l : List ℕ} {i : ℕ} {a : List ℕ} {l1 : List ℕ} {j : ℕ} {b : List ℕ} {l2 : List ℕ} {k : ℕ} → Put m l i a l1 j → Put n l1 j b l2 k → Put (m + n) l i (a ++ b) l2 k
-unfolding behind
-also {m} {n} {l} {i} {a} {l1} {j} {b} {l2} {k} p q =
-    let same = kept p in
-    record {
-      text = q.text ∙ rest p b ∙ ap (λ (x : List ℕ). sets x (i + length a) b) p.text ∙ sym (sets_append l i a b);
-      place = omega (arith, length-append a b);
-      size = omega (arith, length-append a b);
-    }
+-- a byte that has room
+pub put_byte : (n i : ℕ) (bytes : List ℕ) (b : ℕ) → length bytes ≡ n → i < n → take (i + 1) (set bytes i b) ≡ put n (take i bytes) (b ∷ [])
+unfolding put
+put_byte n i bytes b h l =
+    let k : n - length (take i bytes) ≡ suc (n - i - 1) = omega (arith, length-take-le i bytes (omega arith)) in
+    rw (k, take_more_set bytes i b (omega arith)) (ap (λ (l : List ℕ). take i bytes ++ (b ∷ l)) (sym (take-nil (n - i - 1))))
 
--- a larger bound
-pub within : {m n : ℕ} {l : List ℕ} {i : ℕ} {a : List ℕ} {l1 : List ℕ} {j : ℕ} → m ≤ n → Put m l i a l1 j → Put n l i a l1 j
-within h p = record { text = p.text; place = p.place; size = omega arith }
+-- a text with no room
+pub put_full : (n : ℕ) (t bytes : List ℕ) → n ≤ length t → put n t bytes ≡ t
+unfolding put
+put_full n t bytes h = let k : n - length t ≡ 0 = omega arith in rw k (append-nil t)
 
--- another name for the bytes, and another bound
-pub again : {m n : ℕ} {l : List ℕ} {i : ℕ} {a b : List ℕ} {l1 : List ℕ} {j : ℕ} → b ≡ a → length b ≤ n → Put m l i a l1 j → Put n l i b l1 j
-unfolding behind
-again {l = l} {i = i} e h p = record { text = p.text ∙ ap (sets l i) (sym e); place = omega (arith, p.place, ap length e); size = h }
-
--- a text that is put at the start of a buffer in which it fits is what stands before the next place
-written : {m : ℕ} {l : List ℕ} {t : List ℕ} {l1 : List ℕ} {j : ℕ} → Put m l 0 t l1 j → m ≤ length l → take j l1 ≡ t
-unfolding behind
-written {m} {l} {t} {l1} {j} p h = rw (p.text, sets-eq t l 0 (omega (arith, p.size))) (take_at t _ j (omega (arith, p.size, p.place)))
-
-inside : {m : ℕ} {l : List ℕ} {t : List ℕ} {l1 : List ℕ} {j : ℕ} → Put m l 0 t l1 j → j ≤ length l1
-unfolding behind
-inside p = omega (arith, kept p, p.place)
-
--- the same, with how many bytes stand there
-pub stands : {m : ℕ} {l : List ℕ} {t : List ℕ} {l1 : List ℕ} {j : ℕ} → m ≤ length l → Put m l 0 t l1 j → ((j ≤ length l1) × (j ≡ length (take j l1))) × (take j l1 ≡ t)
-stands {j = j} h p = ((inside p, sym (length-take-le j _ (inside p))), written p h)
+pub ruleset puts = (put-put, put-nil)

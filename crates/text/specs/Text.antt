@@ -1,20 +1,12 @@
--- What appending to a buffer means; words, numbers in decimal and rows of numbers as bytes.
-use Rattle.std.specs.Prelude.{ℕ, zero, suc, ◌+◌, ◌-◌, ◌*◌, ◌/◌, ◌%◌, ◌≤◌, min, List, [], ◌∷◌, ◌++◌, ◌≡◌, ltb, eqb, ℤ, pos, negsuc, length, get_or}
+-- What appending to a text means; words, numbers in decimal and rows of numbers as bytes.
+use Rattle.std.specs.Prelude.{ℕ, zero, suc, ◌+◌, ◌-◌, ◌*◌, ◌/◌, ◌%◌, List, [], ◌∷◌, ◌++◌, ltb, eqb, ℤ, pos, negsuc, length, take, get_or}
 use Prim.Native.Char.{code}
 use Prim.Native.String.{String, [] as empty, ◌∷◌ as ◌then◌}
-use Rattle.std.proofs.lemmas.List.Edits.{sets}
 use Rattle.getbits.specs.Chain.{pick}
 
--- the place behind those of n bytes that fit from a place of a buffer of some length on
-unfoldable pub behind : ℕ → ℕ → ℕ → ℕ
-behind at n room = at + min n (room - at)
-
--- bytes, at most `most` of them, are put at a place of a buffer, one after the other; those past its end are dropped, and the next place is
--- behind those that fit
-pub record Put (most : ℕ) (before : List ℕ) (at : ℕ) (bytes after : List ℕ) (next : ℕ) : Type 0 where
-  pub text : after ≡ sets before at bytes
-  pub place : next ≡ behind at (length bytes) (length before)
-  pub size : length bytes ≤ most
+-- a text that has room for n bytes, after bytes are put behind it: those that do not fit are dropped
+unfoldable pub put : ℕ → List ℕ → List ℕ → List ℕ
+put n text bytes = text ++ take (n - length text) bytes
 
 -- a word's bytes: the code of each character
 unfoldable pub word : String → List ℕ

@@ -1,32 +1,166 @@
-// Appends text to a lent buffer: each function puts bytes at a place and answers the place behind them.
-// What does not fit is dropped.
-#![tactic(auto)]
+// A text in fixed memory, and what the programs print into it. What does not fit is dropped.
+#![tactic(auto, using(crate::proofs::Puts::puts))]
 
-ghost use Rattle.std.specs.Prelude.{◌≡◌, [], ◌∷◌, ◌++◌, ◌+◌, ◌*◌, ◌<◌, min, length, get_or, take, eqb, nat_abs, pos};
+ghost use Rattle.std.specs.Prelude.{◌≡◌, [], ◌∷◌, ◌++◌, ◌+◌, ◌*◌, ◌<◌, ◌≤◌, List, ℕ, length, get_or, take, eqb, nat_abs, pos};
 ghost use Rattle.getbits.specs.Chain.{pick};
-ghost use Rattle.text.specs.Text.{Put, blank, decimal, mark, signed, nexts, row, filled, line};
+ghost use Rattle.text.specs.Text.{put, blank, decimal, mark, signed, nexts, row, filled, line};
 ghost use Rattle.text.specs.Text.{digit as Text·digit};
 
-pub fn put_byte(out: &mut [u8], at: usize, b: u8) -> usize
-    ensures { Put 1 out.old at (b ∷ []) out.new result }
-{
-    if at < out.len() {
-        out[at] = b;
-        return at + 1;
-    }
-    at
+use std::marker::Model;
+
+/// A text of at most `N` bytes.
+#[derive(Drop)]
+pub struct Text<const N: usize> {
+    bytes: [u8; N],
+    len: usize,
 }
 
-pub fn put_word(out: &mut [u8], at: usize, word: &[u8]) -> usize
-    ensures { Put (length word.now) out.old at word.now out.new result }
-{
-    let mut next = at;
-    let mut i = 0;
-    while i < word.len() {
-        next = put_byte(out, next, word[i]);
-        i += 1;
+// Clauses see the bytes that were put so far.
+impl<const N: usize> Model for Text<N> {
+    ghost Value = { List ℕ };
+
+    ghost view = { λ t. take t.len t.bytes };
+
+    ghost invariant = { λ t. t.len ≤ N };
+}
+
+impl<const N: usize> Text<N> {
+    pub fn new() -> Self
+        ensures { result ≡ [] }
+    {
+        Text {
+            bytes: [0; N],
+            len: 0,
+        }
     }
-    next
+
+    pub fn as_slice(&self) -> &[u8]
+        ensures { result.now ≡ self.now }
+    {
+        &self.bytes[..self.len]
+    }
+
+    pub fn push(&mut self, b: u8)
+        ensures { self.new ≡ put N self.old (b ∷ []) }
+    {
+        if self.len < N {
+            self.bytes[self.len] = b;
+            self.len += 1;
+        }
+    }
+
+    pub fn push_word(&mut self, word: &[u8])
+        ensures { self.new ≡ put N self.old word.now }
+    {
+        for &b in word {
+            self.push(b);
+        }
+    }
+
+    /// A number in decimal.
+    #[tactic(auto, using(crate::proofs::Puts::puts, crate::proofs::Digits::small, crate::proofs::Digits::large))]
+    pub fn push_number(&mut self, n: u64)
+        ensures text { self.new ≡ put N self.old (decimal n) }
+        ensures size { length (decimal n) ≤ 20 }
+    {
+        if n >= 10 {
+            self.push_number(n / 10);
+        }
+        self.push(digit(n % 10));
+    }
+
+    #[tactic(auto, using(crate::proofs::Puts::puts, crate::proofs::Rows::signed_negative, crate::proofs::Rows::signed_other))]
+    pub fn push_signed(&mut self, n: i64)
+        ensures text { self.new ≡ put N self.old (signed n) }
+        ensures size { length (signed n) ≤ 21 }
+    {
+        if n < 0 {
+            self.push(b'-');
+        }
+        self.push_number(n.unsigned_abs());
+    }
+
+    // A blank and a number.
+    fn push_next(&mut self, n: u64)
+        ensures text { self.new ≡ put N self.old (blank ∷ decimal n) }
+        ensures size { length (blank ∷ decimal n) ≤ 21 }
+    {
+        self.push(b' ');
+        self.push_number(n);
+    }
+
+    // Numbers, a blank in front of each.
+    #[tactic(auto, using(crate::proofs::Rows::rows), unfolding(crate::specs::Text::nexts))]
+    fn push_nexts(&mut self, xs: &[u64])
+        ensures text { self.new ≡ put N self.old (nexts xs.now) }
+        ensures size { length (nexts xs.now) ≤ 21 * length xs.now }
+    {
+        for &x in xs {
+            self.push_next(x);
+        }
+    }
+
+    /// A line: a word, then numbers, a blank in front of each.
+    pub fn push_line(&mut self, word: &[u8], xs: &[u64])
+        ensures text { self.new ≡ put N self.old (line (word.now ++ nexts xs.now)) }
+        ensures size { length (line (word.now ++ nexts xs.now)) ≤ length word.now + (21 * length xs.now + 1) }
+    {
+        self.push_word(word);
+        self.push_nexts(xs);
+        self.push(b'\n');
+    }
+
+    /// A number, and a blank in front of it unless it is the first.
+    pub fn push_item(&mut self, n: u64, first: bool)
+        ensures text { self.new ≡ put N self.old (pick first (decimal n) (blank ∷ decimal n)) }
+        ensures size { length (pick first (decimal n) (blank ∷ decimal n)) ≤ 21 }
+    {
+        if first {
+            self.push_number(n);
+        } else {
+            self.push_next(n);
+        }
+    }
+
+    // Numbers with one blank between.
+    #[tactic(auto, using(crate::proofs::Rows::rows), unfolding(crate::specs::Text::nexts))]
+    fn push_items(&mut self, xs: &[u16])
+        ensures text { self.new ≡ put N self.old (row xs.now) }
+        ensures size { length (row xs.now) ≤ 21 * length xs.now }
+    {
+        if let [first, rest @ ..] = xs {
+            self.push_number(u64::from(*first));
+            for &x in rest {
+                self.push_next(u64::from(x));
+            }
+        }
+    }
+
+    /// A line: the first `n` of some numbers with one blank between.
+    #[tactic(auto, using(crate::proofs::Puts::puts, crate::proofs::Rows::take_min))]
+    pub fn push_row(&mut self, xs: &[u16], n: usize)
+        ensures text { self.new ≡ put N self.old (line (row (take n xs.now))) }
+        ensures size { length (line (row (take n xs.now))) ≤ 21 * n + 1 }
+    {
+        self.push_items(&xs[..n.min(xs.len())]);
+        self.push(b'\n');
+    }
+
+    /// A template with its # replaced by the numbers from the `first` on; 0 where there is none.
+    pub fn push_filled(&mut self, template: &[u8], xs: &[i64], first: usize)
+        ensures text { self.new ≡ put N self.old (filled template.now xs.now first) }
+        ensures size { length (filled template.now xs.now first) ≤ 21 * length template.now }
+    {
+        let mut next = first;
+        for &c in template {
+            if c == b'#' {
+                self.push_signed(number_at(xs, next));
+                next = next.saturating_add(1);
+            } else {
+                self.push(c);
+            }
+        }
+    }
 }
 
 fn digit(d: u64) -> u8
@@ -36,151 +170,9 @@ fn digit(d: u64) -> u8
     48 + d as u8
 }
 
-pub fn put_number(out: &mut [u8], at: usize, n: u64) -> usize
-    ensures { Put 20 out.old at (decimal n) out.new result }
+// The number at i, and 0 where there is none.
+fn number_at(xs: &[i64], i: usize) -> i64
+    ensures { result ≡ get_or xs.now i (pos 0) }
 {
-    if n < 10 {
-        return put_byte(out, at, digit(n));
-    }
-    let next = put_number(out, at, n / 10);
-    put_byte(out, next, digit(n % 10))
-}
-
-fn magnitude(n: i64) -> u64
-    ensures { result ≡ nat_abs n }
-{
-    if n < 0 {
-        return (-1 - n) as u64 + 1;
-    }
-    n as u64
-}
-
-pub fn put_signed(out: &mut [u8], at: usize, n: i64) -> usize
-    ensures { Put 21 out.old at (signed n) out.new result }
-{
-    if n < 0 {
-        let next = put_byte(out, at, b'-');
-        return put_number(out, next, magnitude(n));
-    }
-    put_number(out, at, magnitude(n))
-}
-
-// A blank and a number.
-fn put_next(out: &mut [u8], at: usize, n: u64) -> usize
-    ensures { Put 21 out.old at (blank ∷ decimal n) out.new result }
-{
-    let next = put_byte(out, at, b' ');
-    put_number(out, next, n)
-}
-
-// Numbers, a blank in front of each.
-fn put_nexts(out: &mut [u8], at: usize, xs: &[u64]) -> usize
-    ensures { Put (21 * length xs.now) out.old at (nexts xs.now) out.new result }
-{
-    let mut next = at;
-    let mut i = 0;
-    while i < xs.len() {
-        next = put_next(out, next, xs[i]);
-        i += 1;
-    }
-    next
-}
-
-// A line: a word, then numbers, a blank in front of each.
-pub fn put_line(out: &mut [u8], at: usize, word: &[u8], xs: &[u64]) -> usize
-    ensures { Put (length word.now + (21 * length xs.now + 1)) out.old at
-        (line (word.now ++ nexts xs.now)) out.new result }
-{
-    let mut next = put_word(out, at, word);
-    next = put_nexts(out, next, xs);
-    put_byte(out, next, b'\n')
-}
-
-fn least(a: usize, b: usize) -> usize
-    ensures { result ≡ min a b }
-{
-    if a < b { a } else { b }
-}
-
-fn u16_to_u64(x: u16) -> u64
-    ensures { result ≡ x }
-{
-    x as u64
-}
-
-// A number, and a blank in front of it unless it is the first.
-pub fn put_item(out: &mut [u8], at: usize, n: u64, first: bool) -> usize
-    ensures { Put 21 out.old at (pick first (decimal n) (blank ∷ decimal n)) out.new result }
-{
-    if first {
-        return put_number(out, at, n);
-    }
-    put_next(out, at, n)
-}
-
-// The first n of some numbers with one blank between.
-fn put_items(out: &mut [u8], at: usize, xs: &[u16], n: usize) -> usize
-    ensures { Put (21 * n) out.old at (row (take n xs.now)) out.new result }
-{
-    let end = least(n, xs.len());
-    let mut next = at;
-    let mut i = 0;
-    while i < end {
-        next = put_item(out, next, u16_to_u64(xs[i]), i == 0);
-        i += 1;
-    }
-    next
-}
-
-// A line: the first n of some numbers with one blank between.
-pub fn put_row(out: &mut [u8], at: usize, xs: &[u16], n: usize) -> usize
-    ensures { Put (21 * n + 1) out.old at (line (row (take n xs.now))) out.new result }
-{
-    let end = put_items(out, at, xs, n);
-    put_byte(out, end, b'\n')
-}
-
-// The k-th number from the `first` on, and 0 where there is none.
-fn number_at(xs: &[i64], first: usize, k: usize) -> i64
-    ensures { result ≡ get_or xs.now (first + k) (pos 0) }
-{
-    if first < xs.len() {
-        if k < xs.len() - first {
-            return xs[first + k];
-        }
-    }
-    0
-}
-
-// A byte of a template: a # stands for the number.
-fn put_filler(out: &mut [u8], at: usize, c: u8, x: i64) -> usize
-    ensures { Put 21 out.old at (pick (eqb c mark) (signed x) (c ∷ [])) out.new result }
-{
-    if c == b'#' {
-        return put_signed(out, at, x);
-    }
-    put_byte(out, at, c)
-}
-
-fn used_by(c: u8) -> usize
-    ensures { (result ≡ pick (eqb c mark) 1 0) × (result < 2) }
-{
-    if c == b'#' { 1 } else { 0 }
-}
-
-// A template with its # replaced by the numbers from the `first` on.
-pub fn put_filled(out: &mut [u8], at: usize, template: &[u8], xs: &[i64], first: usize) -> usize
-    ensures { Put (21 * length template.now) out.old at
-        (filled template.now xs.now first) out.new result }
-{
-    let mut next = at;
-    let mut i = 0;
-    let mut k = 0;
-    while i < template.len() {
-        let c = template[i];
-        next = put_filler(out, next, c, number_at(xs, first, k));
-        k += used_by(c);
-        i += 1;
-    }
-    next
+    xs.get(i).copied().unwrap_or(0)
 }

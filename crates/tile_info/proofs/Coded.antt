@@ -1,8 +1,10 @@
 -- The pair of codes of arguments in the domain. Assumes nothing.
 use mathlib.Core.Path.{◌≡◌, refl}
-use mathlib.Core.Bool.{true}
-use Prim.Native.Nat.{ℕ, ◌*◌, min, max}
+use mathlib.Core.Bool.{Bool, true, false}
+use Prim.Native.Nat.{ℕ, ◌*◌, ◌≤◌, min, max}
+use mir.Val.{bool_byte}
 use native.Mathlib.Omega.{arith}
+use Rattle.getbits.specs.Chain.{pick}
 use Rattle.tile_layout.specs.declared.TileArgs.{TileArgs}
 use Rattle.tile_layout.specs.Limits.{in_domain, sbw, sbh, width_limit, area_limit, tile_log2}
 use Rattle.tile_layout.proofs.Domain.{domain, low_code, low_seq_code, across, limits}
@@ -40,3 +42,8 @@ held_area a e u v =
 -- the area is small
 pub whole : (a : TileArgs) {x y : ℕ} → in_domain a ≡ true → x ≡ sbw a → y ≡ sbh a → min (x * y) 4294967295 ≡ sbw a * sbh a
 whole a e u v = rw (u, v) (omega (arith, area_low a (domain a e)))
+
+-- a flag as a number
+pub flag : {n : ℕ} (b : Bool) → n ≡ bool_byte b → (n ≡ pick b 1 0) × (n ≤ 1)
+flag true e = (e, omega (arith, e))
+flag false e = (e, omega (arith, e))

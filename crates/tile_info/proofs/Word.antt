@@ -7,7 +7,7 @@ use native.Mathlib.Omega.{arith}
 use borrow.Author.Tests.{eq-eqb, ne_eqb}
 use Rattle.codes.proofs.Word.{bit_behind, is_one, is_zero}
 use Rattle.getbits.specs.Bits.{bit_at, bits_at, position, read_bits, look_at, get_bit, get_flag}
-use Rattle.getbits.specs.declared.Number.{Number}
+use Rattle.getbits.specs.declared.Read.{Read}
 use Rattle.getbits.specs.declared.Place.{Place}
 use Rattle.getbits.proofs.Callers.{read_none, read_settled}
 use Rattle.getbits.proofs.Fields.{bits_lt}
@@ -23,7 +23,7 @@ module _ (s : List ℕ) (p : Place) (word : ℕ) (w : word ≡ look_at s p 32) w
 
   first_bit : (get_bit s p).value ≡ bit_at s (position s p + 0)
   unfolding get_bit
-  first_bit = ap (λ (r : Number). r.value) (sym (read_settled s p 1) ∙ ap (λ (r : Number). read_bits s r.next 1) (sym (read_none s p)) ∙ bit_behind s p 0)
+  first_bit = ap (λ (r : Read ℕ). r.value) (sym (read_settled s p 1) ∙ ap (λ (r : Read ℕ). read_bits s r.next 1) (sym (read_none s p)) ∙ bit_behind s p 0)
 
   pub flag_set : 2147483648 ≤ word → (get_flag s p).value ≡ true
   unfolding get_flag

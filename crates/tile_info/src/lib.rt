@@ -19,12 +19,10 @@ use getbits::{Place, get_bit, look_ahead, read_bits};
 use superblocks::FrameSb;
 use tile_layout::{TileArgs, TileInfo, TileRead, in_domain, tile_args};
 
-mod intops;
 mod limits;
 mod nonuniform;
 mod uniform;
 
-use intops::usub;
 use limits::{FrameLimits, frame_limits};
 use nonuniform::{max_tile_height_sb, read_tiles};
 use uniform::{read_log2, uniform_starts};
@@ -51,9 +49,10 @@ pub fn col_bounds(a: TileArgs) -> SizeBounds
 {
     if in_domain(a) {
         let k = frame_limits(a);
-        let total = k.sbw;
-        let limit = k.max_tile_width_sb;
-        return SizeBounds { total, limit };
+        return SizeBounds {
+            total: k.sbw,
+            limit: k.max_tile_width_sb,
+        };
     }
     no_bounds()
 }
@@ -64,9 +63,10 @@ pub fn row_bounds(a: TileArgs, widest_tile: FrameSb) -> SizeBounds
 {
     if in_domain(a) {
         let k = frame_limits(a);
-        let total = k.sbh;
-        let limit = max_tile_height_sb(a, k, widest_tile);
-        return SizeBounds { total, limit };
+        return SizeBounds {
+            total: k.sbh,
+            limit: max_tile_height_sb(a, k, widest_tile),
+        };
     }
     no_bounds()
 }
@@ -89,17 +89,17 @@ fn uniform_layout(
     cols: &mut [u16],
     rows: &mut [u16],
 ) -> Place
-    requires a_value { in_domain a ≡ true }
+    requires in_the_domain { in_domain a ≡ true }
     requires known { Known a k }
     requires word_value { word ≡ look_at s.now p 32 }
-    requires rows_value { has_room (buffers info.old cols.old rows.old) ≡ true }
+    requires room { has_room (buffers info.old cols.old rows.old) ≡ true }
     ensures { let before = buffers info.old cols.old rows.old in
         let after = buffers info.new cols.new rows.new in
         let z = uniform_layout s.now (get_flag s.now p).next a in
         (result ≡ z.next) × (after ≡ put_layout z.info before) }
 {
     let c = read_log2(word, 1, k.min_log2_cols, k.max_log2_cols);
-    let min_log2_rows = usub(k.min_log2_tiles, c.log2);
+    let min_log2_rows = k.min_log2_tiles.saturating_sub(c.log2);
     let r = read_log2(word, c.used, min_log2_rows, k.max_log2_rows);
     let n_cols = uniform_starts(&mut *cols, a, k.pair, a.width, k.sbw, c.log2);
     let n_rows = uniform_starts(&mut *rows, a, k.pair, a.height, k.sbh, r.log2);
@@ -138,9 +138,9 @@ fn read_nonuniform(
     cols: &mut [u16],
     rows: &mut [u16],
 ) -> TileOutcome
-    requires a_value { in_domain a ≡ true }
+    requires in_the_domain { in_domain a ≡ true }
     requires known { Known a k }
-    requires rows_value { has_room (buffers info.old cols.old rows.old) ≡ true }
+    requires room { has_room (buffers info.old cols.old rows.old) ≡ true }
     ensures { let before = buffers info.old cols.old rows.old in
         let after = buffers info.new cols.new rows.new in
         SizedInto (non_uniform_layout s.now p (layout_in before) a) before result after }
@@ -151,9 +151,8 @@ fn read_nonuniform(
     }
     let max_height = max_tile_height_sb(a, k, c.widest);
     let r = read_tiles(s, c.next, &mut *rows, k.sbh, max_height);
-    let next = r.next;
     if r.short {
-        return invalid_tile_info(next);
+        return invalid_tile_info(r.next);
     }
     let min_log2_rows = info[5];
     put_layout_bytes(
@@ -170,7 +169,7 @@ fn read_nonuniform(
     );
     TileOutcome {
         answer: Answer::Accepted,
-        next,
+        next: r.next,
     }
 }
 
@@ -194,9 +193,9 @@ fn nonuniform_layout(
     cols: &mut [u16],
     rows: &mut [u16],
 ) -> TileOutcome
-    requires a_value { in_domain a ≡ true }
+    requires in_the_domain { in_domain a ≡ true }
     requires known { Known a k }
-    requires rows_value { has_room (buffers info.old cols.old rows.old) ≡ true }
+    requires room { has_room (buffers info.old cols.old rows.old) ≡ true }
     ensures { let before = buffers info.old cols.old rows.old in
         let after = buffers info.new cols.new rows.new in
         (result, after) ≡ read_into (non_uniform_layout s.now p (layout_in before) a) before }
@@ -205,8 +204,7 @@ fn nonuniform_layout(
     let old_cols = old_starts(&*cols, may_refuse);
     let old_rows = old_starts(&*rows, may_refuse);
     let r = read_nonuniform(s, p, a, k, &mut *info, &mut *cols, &mut *rows);
-    let answer = r.answer;
-    if is_refusal(answer) {
+    if is_refusal(r.answer) {
         put_starts(&mut *cols, &old_cols);
         put_starts(&mut *rows, &old_rows);
     }
@@ -222,8 +220,8 @@ fn read_layout(
     cols: &mut [u16],
     rows: &mut [u16],
 ) -> TileOutcome
-    requires a_value { in_domain a ≡ true }
-    requires rows_value { has_room (buffers info.old cols.old rows.old) ≡ true }
+    requires in_the_domain { in_domain a ≡ true }
+    requires room { has_room (buffers info.old cols.old rows.old) ≡ true }
     ensures { let before = buffers info.old cols.old rows.old in
         let after = buffers info.new cols.new rows.new in
         (result, after) ≡ read_into (parse_tile_info s.now p (layout_in before) a) before }
@@ -246,8 +244,10 @@ fn unread(s: &[u8], p: Place, answer: Answer) -> TileOutcome
     ensures { result ≡ record { answer = answer; next = settled s.now p } }
 {
     let here = read_bits(s, p, 0);
-    let next = here.next;
-    TileOutcome { answer, next }
+    TileOutcome {
+        answer,
+        next: here.next,
+    }
 }
 
 // parse_tile_info into lent buffers: nine bytes, and the starts of the columns and of the rows.
@@ -265,18 +265,18 @@ pub fn parse_tile_info_into(
     level: u8,
     tier: u8,
 ) -> TileOutcome
-    ensures after_after { let before = buffers info.old cols.old rows.old in
+    ensures outcome { let before = buffers info.old cols.old rows.old in
         let after = buffers info.new cols.new rows.new in
         (result, after) ≡ parse_tile_info_into s.now p before (args_of sbmul sb128 seq_sb128 w h level tier) }
-    ensures fact { let before = buffers info.old cols.old rows.old in
+    ensures as_by_value { let before = buffers info.old cols.old rows.old in
         let after = buffers info.new cols.new rows.new in
         (has_room before ≡ true
         → layout_left result after ≡ parse_tile_info s.now p (layout_in before) (args_of sbmul sb128 seq_sb128 w h level tier)) }
-    ensures fact_2 { let before = buffers info.old cols.old rows.old in
+    ensures demand3 { let before = buffers info.old cols.old rows.old in
         let after = buffers info.new cols.new rows.new in
         let args = args_of sbmul sb128 seq_sb128 w h level tier in
         (has_room before ≡ true → in_domain args ≡ true → Demand3 s.now p args (layout_left result after)) }
-    ensures fact_3 { let before = buffers info.old cols.old rows.old in
+    ensures read_over { let before = buffers info.old cols.old rows.old in
         let after = buffers info.new cols.new rows.new in
         ReadOver (layout_in before) (layout_left result after) }
 {
@@ -317,8 +317,10 @@ pub fn parse_tile_info(
     let r = parse_tile_info_into(
         s, p, &mut info, &mut cols, &mut rows, sbmul, sb128, seq_sb128, w, h, level, tier,
     );
-    let answer = r.answer;
-    let next = r.next;
     let info = tile_info_of(&info, &cols, &rows);
-    TileRead { answer, info, next }
+    TileRead {
+        answer: r.answer,
+        info,
+        next: r.next,
+    }
 }

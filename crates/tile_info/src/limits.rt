@@ -3,7 +3,6 @@ ghost use Rattle.std.specs.Prelude.{◌≡◌, true};
 ghost use Rattle.tile_layout.specs.Limits.{in_domain, width_limit, area_limit};
 ghost use Rattle.tile_info.specs.Inner.{Known, Coded};
 
-use super::intops::{one_if, umax};
 use getbits::power;
 use superblocks::{AreaSb, FrameSb, Pair};
 use tile_layout::TileArgs;
@@ -21,23 +20,23 @@ pub struct FrameLimits {
 }
 
 fn max_tile_width_sb(a: TileArgs, pair: Pair) -> FrameSb
-    requires a_value { in_domain a ≡ true }
+    requires in_the_domain { in_domain a ≡ true }
     requires coded { Coded a pair }
     ensures { result.0 ≡ width_limit a }
 {
-    let w_adj = one_if(a.level >= 18) + one_if((a.level >= 14) & (a.tier == 1));
-    pair.width_limit(4096 * power(w_adj as u32))
+    let w_adj = u32::from(a.level >= 18) + u32::from((a.level >= 14) & (a.tier == 1));
+    pair.width_limit(4096 * power(w_adj))
 }
 
 fn max_tile_area_sb(a: TileArgs, pair: Pair) -> AreaSb
-    requires a_value { in_domain a ≡ true }
+    requires in_the_domain { in_domain a ≡ true }
     requires coded { Coded a pair }
     ensures { result.0 ≡ area_limit a }
 {
-    let sz_adj = one_if(a.level >= 14)
-        + one_if(a.level >= 18)
-        + one_if((a.level >= 14) & (a.tier == 1));
-    pair.area_limit(9_437_184 * power(sz_adj as u32))
+    let sz_adj = u32::from(a.level >= 14)
+        + u32::from(a.level >= 18)
+        + u32::from((a.level >= 14) & (a.tier == 1));
+    pair.area_limit(9_437_184 * power(sz_adj))
 }
 
 pub fn frame_limits(a: TileArgs) -> FrameLimits
@@ -58,6 +57,6 @@ pub fn frame_limits(a: TileArgs) -> FrameLimits
         min_log2_cols,
         max_log2_cols: sbw.max_log2(),
         max_log2_rows: sbh.max_log2(),
-        min_log2_tiles: umax(area_log2, min_log2_cols),
+        min_log2_tiles: area_log2.max(min_log2_cols),
     }
 }

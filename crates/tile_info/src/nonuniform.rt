@@ -32,8 +32,8 @@ fn read_sizes(s: &[u8], p: Place, starts: &mut [u16], total: FrameSb, limit: Fra
         starts[tiles as usize] = sbx.number();
         let z = read_size(s, next, total.minus(sbx), limit);
         next = z.next;
-        widest_tile = widest_tile.most(z.size);
-        sbx = sbx.plus(z.size);
+        widest_tile = widest_tile.most(z.value);
+        sbx = sbx.plus(z.value);
         tiles += 1;
     }
     Sizes {
@@ -59,24 +59,19 @@ pub fn read_tiles(s: &[u8], p: Place, starts: &mut [u16], total: FrameSb, limit:
     ensures { TilesOf (read_sizes 64 s.now p total.0 limit.0) total.0 result (drop 65 starts.old) starts.new }
 {
     let z = read_sizes(s, p, &mut *starts, total, limit);
-    let tiles = z.tiles;
-    starts[tiles as usize] = total.number();
-    let log2 = tiles_log2(tiles);
-    let short = z.sum.below(total);
-    let widest = z.widest;
-    let next = z.next;
+    starts[z.tiles as usize] = total.number();
     Tiles {
-        tiles,
-        log2,
-        short,
-        widest,
-        next,
+        tiles: z.tiles,
+        log2: tiles_log2(z.tiles),
+        short: z.sum.below(total),
+        widest: z.widest,
+        next: z.next,
     }
 }
 
 // The most superblocks that a row may have, beside a column of `widest_tile`.
 pub fn max_tile_height_sb(a: TileArgs, k: FrameLimits, widest_tile: FrameSb) -> FrameSb
-    requires a_value { in_domain a ≡ true }
+    requires in_the_domain { in_domain a ≡ true }
     requires known { Known a k }
     ensures { result.0 ≡ row_limit a widest_tile.0 }
 {

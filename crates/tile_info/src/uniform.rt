@@ -51,16 +51,15 @@ fn fill(starts: &mut [u16], pair: Pair, split: Split, end: FrameSb)
 {
     clear_starts(&mut *starts);
     let mut sbx = SeqSb::none();
-    let mut i: u8 = 0;
-    while split.tiles.has(i) {
+    let tiles = split.tiles.number();
+    for i in 0..tiles {
         starts[i as usize] = sbx.in_frame(pair).number();
         sbx = sbx.plus(split.tile);
         if split.extra.has(i) {
             sbx = sbx.plus(SeqSb::one());
         }
-        i += 1;
     }
-    starts[i as usize] = end.number();
+    starts[tiles as usize] = end.number();
 }
 
 // How many columns or rows there are along n samples, which are `end` superblocks of the frame. Their starts are stored.
@@ -72,7 +71,7 @@ pub fn uniform_starts(
     end: FrameSb,
     log2: u8,
 ) -> u8
-    requires a_value { in_domain a ≡ true }
+    requires in_the_domain { in_domain a ≡ true }
     requires coded { Coded a pair }
     requires in_bounds { (65 ≤ length starts.old) × (1 ≤ n) × (n ≤ 65536) × (end.0 ≡ superblocks n a.frame_code) × (log2 ≤ 6) }
     ensures { (result ≡ uniform_count a n log2) × (starts.new ≡ padded (uniform_edges a n log2) ++ drop 65 starts.old) }

@@ -6,7 +6,7 @@ use native.Mathlib.Numerals.{add-one}
 use native.Mathlib.Omega.{arith}
 use lib.ListN.{length, get_or}
 use Rattle.getbits.specs.Chain.{then}
-use Rattle.getbits.specs.declared.Number.{Number}
+use Rattle.getbits.specs.declared.Read.{Read}
 use Rattle.getbits.specs.declared.Place.{Place}
 use Rattle.codes.specs.Codes.{get_uniform}
 use Rattle.codes.proofs.Callers.{uniform_lt}
@@ -25,7 +25,7 @@ unfolding read_sizes sum then
 sizes_read zero s p remains limit l = record { few = omega arith; inside = omega arith; each = λ k h. omega arith; some = λ h. omega arith }
 sizes_read (suc most) s p zero limit l = record { few = omega arith; inside = omega arith; each = λ k h. omega arith; some = λ h g. omega arith }
 sizes_read (suc most) s p (suc n) limit l =
-    let v : Number = get_uniform s p (min (suc n) limit) in
+    let v : Read ℕ = get_uniform s p (min (suc n) limit) in
     let v< : v.value < min (suc n) limit = uniform_lt s p (min (suc n) limit) (omega arith) in
     let ih = sizes_read most s v.next (suc n - (v.value + 1)) limit l in
     record {

@@ -3,7 +3,7 @@ use Rattle.std.specs.Prelude.{true, false, List, [], ◌∷◌, ◌++◌, ℕ, z
 use Rattle.answers.specs.declared.Answer.TheVariants.{Accepted, InvalidTileInfo, WrongArguments}
 use Rattle.getbits.specs.Bits.{settled, get_flag}
 use Rattle.getbits.specs.Chain.{pick, then}
-use Rattle.getbits.specs.declared.Number.{Number}
+use Rattle.getbits.specs.declared.Read.{Read}
 use Rattle.getbits.specs.declared.Place.{Place}
 use Rattle.codes.specs.Codes.{plus, run_of, get_uniform}
 use Rattle.tile_layout.specs.declared.TileArgs.{TileArgs}
@@ -56,7 +56,7 @@ uniform_edges a n log =
     ++ (superblocks n a.frame_code ∷ [])
 
 -- each one bit raises the logarithm until its maximum
-unfoldable pub read_log2 : List ℕ → Place → ℕ → ℕ → Number
+unfoldable pub read_log2 : List ℕ → Place → ℕ → ℕ → Read ℕ
 read_log2 s p least most = plus least (run_of 1 (most - least) s p)
 
 unfoldable pub uniform_info : TileArgs → ℕ → ℕ → TileInfo

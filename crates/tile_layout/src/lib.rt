@@ -8,7 +8,7 @@ use answers::Answer;
 use getbits::Place;
 
 // Starts are counted in the frame's superblocks; the entry behind the last start closes the layout.
-#[derive(Clone, Copy)]
+#[derive(Clone, Copy, PartialEq, Eq)]
 pub struct TileInfo {
     pub uniform: bool,
     pub min_log2_cols: u8,

@@ -57,11 +57,10 @@ pub fn tiles_within(limit: TileLimit, thdr: TileInfo, r: TileRead) -> TileRead
     ensures { result ≡ tiles_within limit thdr r }
 {
     if is_too_many(limit, r) {
-        let next = r.next;
         return TileRead {
             answer: Answer::TooManyTiles,
             info: thdr,
-            next,
+            next: r.next,
         };
     }
     r
@@ -72,11 +71,10 @@ pub fn frame_within(limit: TileLimit, hdr: FrameHeader, r: FrameRead) -> FrameRe
     ensures { result ≡ frame_within limit hdr r }
 {
     if is_too_many(limit, frame_tiles(r)) {
-        let next = r.next;
         return FrameRead {
             answer: Answer::TooManyTiles,
             hdr,
-            next,
+            next: r.next,
         };
     }
     r

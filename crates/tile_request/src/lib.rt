@@ -1,10 +1,10 @@
 // What the programs tile, over, frame, panel, rects and write share: a request with tiling bits and a layout's record in bytes, and the text of a layout.
 #![tactic(auto)]
 
-ghost use Rattle.std.specs.Prelude.{◌≡◌, ◌+◌, ◌≤◌, pos};
+ghost use Rattle.std.specs.Prelude.{◌≡◌, ◌+◌, ◌≤◌, pos, length};
 ghost use Rattle.program.specs.Output.{starts_text};
 ghost use Rattle.superblocks.specs.Counts.{multiplier_of};
-ghost use Rattle.text.specs.Text.{Put};
+ghost use Rattle.text.specs.Text.{put};
 ghost use Rattle.tile_request.specs.Layout.{starts_at, given_layout};
 ghost use Rattle.tile_request.specs.Print.{tile_head_text, tile_layout_text, tile_read_text};
 ghost use Rattle.tile_request.specs.Request.{samples_at, is_tile_request, request_over, tile_request};
@@ -15,13 +15,13 @@ use getbits::Place;
 use lent::{is_set, position_of};
 use program::{byte_at, is_input, put_accepted, put_refused, two_at};
 use superblocks::multiplier_of;
-use text::put_row;
+use text::Text;
 use tile_info::parse_tile_info;
 use tile_layout::{TileInfo, TileRead, no_tile_info};
 
 mod whole;
 
-use whole::{put_all_starts, put_logs, put_whole_head};
+use whole::{put_logs, put_whole_head};
 
 // A width or a height.
 pub fn samples(s: &[u8], i: usize) -> i32
@@ -42,10 +42,8 @@ fn starts_at(s: &[u8], i: usize) -> [u16; 65]
     ensures { result ≡ starts_at s.now i }
 {
     let mut starts = [0u16; 65];
-    let mut k: usize = 0;
-    while k < 65 {
+    for k in 0..65 {
         starts[k] = two_at(s, i + 2 * k) as u16;
-        k += 1;
     }
     starts
 }
@@ -118,55 +116,58 @@ pub fn tile_request(s: &[u8]) -> TileRead
     request_over(no_tile_info(), s)
 }
 
-fn put_head(out: &mut [u8], t: TileInfo, next: Place) -> usize
-    ensures { Put 89 out.old 0 (tile_head_text t next) out.new result }
+#[tactic(auto, unfolding(crate::specs::Print::tile_head_text))]
+fn put_head<const N: usize>(out: &mut Text<N>, t: &TileInfo, next: Place)
+    ensures text { out.new ≡ put N out.old (tile_head_text t.now next) }
+    ensures size { length (tile_head_text t.now next) ≤ 89 }
 {
     let xs = [
-        t.cols as u64,
-        t.rows as u64,
+        u64::from(t.cols),
+        u64::from(t.rows),
         position_of(next) as u64,
-        next.error as u64,
+        u64::from(next.error),
     ];
-    put_accepted(out, 0, t.uniform, &xs)
+    put_accepted(out, t.uniform, &xs);
 }
 
 // The n starts and the closing one.
-fn put_starts(out: &mut [u8], at: usize, starts: &[u16; 65], n: u8) -> usize
-    ensures { Put 5377 out.old at (starts_text starts.now (n + 1)) out.new result }
+fn put_starts<const N: usize>(out: &mut Text<N>, starts: &[u16; 65], n: u8)
+    ensures text { out.new ≡ put N out.old (starts_text starts.now (n + 1)) }
+    ensures size { length (starts_text starts.now (n + 1)) ≤ 5377 }
 {
-    put_row(out, at, starts, n as usize + 1)
+    out.push_row(starts, usize::from(n) + 1);
 }
 
-fn put_layout(out: &mut [u8], t: TileInfo, next: Place) -> usize
-    ensures { Put 10843 out.old 0 (tile_layout_text t next) out.new result }
+#[tactic(auto, using(text::proofs::Puts::puts), unfolding(crate::specs::Print::tile_layout_text))]
+fn put_layout<const N: usize>(out: &mut Text<N>, t: &TileInfo, next: Place)
+    ensures text { out.new ≡ put N out.old (tile_layout_text t.now next) }
+    ensures size { length (tile_layout_text t.now next) ≤ 10843 }
 {
-    let cols = t.col_start_sb;
-    let rows = t.row_start_sb;
-    let head = put_head(out, t, next);
-    let first = put_starts(out, head, &cols, t.cols);
-    put_starts(out, first, &rows, t.rows)
+    put_head(out, t, next);
+    put_starts(out, &t.col_start_sb, t.cols);
+    put_starts(out, &t.row_start_sb, t.rows);
 }
 
-pub fn put_tile_read(out: &mut [u8], r: TileRead) -> usize
-    ensures { Put 10843 out.old 0 (tile_read_text r) out.new result }
+#[tactic(auto, unfolding(crate::specs::Print::tile_read_text))]
+pub fn put_tile_read<const N: usize>(out: &mut Text<N>, r: &TileRead)
+    ensures text { out.new ≡ put N out.old (tile_read_text r.now) }
+    ensures size { length (tile_read_text r.now) ≤ 10843 }
 {
-    let answer = r.answer;
-    if is_refusal(answer) {
-        return put_refused(out, 0, number(answer));
+    if is_refusal(r.answer) {
+        put_refused(out, number(r.answer));
+    } else {
+        put_layout(out, &r.info, r.next);
     }
-    let info = r.info;
-    let next = r.next;
-    put_layout(out, info, next)
 }
 
 // A layout with all its starts and its logarithms.
-pub fn put_whole_layout(out: &mut [u8], t: TileInfo, next: Place, sb128: u8) -> usize
-    ensures { Put 2969 out.old 0 (whole_layout_text t next sb128) out.new result }
+#[tactic(auto, using(text::proofs::Puts::puts), unfolding(crate::specs::Whole::whole_layout_text))]
+pub fn put_whole_layout<const N: usize>(out: &mut Text<N>, t: &TileInfo, next: Place, sb128: u8)
+    ensures text { out.new ≡ put N out.old (whole_layout_text t.now next sb128) }
+    ensures size { length (whole_layout_text t.now next sb128) ≤ 2969 }
 {
-    let cols = t.col_start_sb;
-    let rows = t.row_start_sb;
-    let head = put_whole_head(out, t, next, sb128);
-    let first = put_all_starts(out, head, &cols);
-    let second = put_all_starts(out, first, &rows);
-    put_logs(out, second, t)
+    put_whole_head(out, t, next, sb128);
+    out.push_row(&t.col_start_sb, 65);
+    out.push_row(&t.row_start_sb, 65);
+    put_logs(out, t);
 }

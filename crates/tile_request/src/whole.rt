@@ -1,44 +1,41 @@
 // The lines that are printed of a whole layout.
-ghost use Rattle.program.specs.Output.{starts_text};
-ghost use Rattle.text.specs.Text.{Put};
+ghost use Rattle.std.specs.Prelude.{◌≡◌, ◌≤◌, length};
+ghost use Rattle.text.specs.Text.{put};
 ghost use Rattle.tile_request.specs.Whole.{whole_head_text, logs_text};
 
 use getbits::Place;
 use lent::position_of;
 use program::put_accepted;
-use text::put_row;
+use text::Text;
 use tile_layout::TileInfo;
 
-pub fn put_whole_head(out: &mut [u8], t: TileInfo, next: Place, sb128: u8) -> usize
-    ensures { Put 110 out.old 0 (whole_head_text t next sb128) out.new result }
+#[tactic(auto, unfolding(crate::specs::Whole::whole_head_text))]
+pub fn put_whole_head<const N: usize>(out: &mut Text<N>, t: &TileInfo, next: Place, sb128: u8)
+    ensures text { out.new ≡ put N out.old (whole_head_text t.now next sb128) }
+    ensures size { length (whole_head_text t.now next sb128) ≤ 110 }
 {
     let xs = [
-        t.cols as u64,
-        t.rows as u64,
+        u64::from(t.cols),
+        u64::from(t.rows),
         position_of(next) as u64,
-        next.error as u64,
-        sb128 as u64,
+        u64::from(next.error),
+        u64::from(sb128),
     ];
-    put_accepted(out, 0, t.uniform, &xs)
+    put_accepted(out, t.uniform, &xs);
 }
 
-// All 65 starts.
-pub fn put_all_starts(out: &mut [u8], at: usize, starts: &[u16; 65]) -> usize
-    ensures { Put 1366 out.old at (starts_text starts.now 65) out.new result }
-{
-    put_row(out, at, starts, 65)
-}
-
-pub fn put_logs(out: &mut [u8], at: usize, t: TileInfo) -> usize
-    ensures { Put 127 out.old at (logs_text t) out.new result }
+#[tactic(auto, unfolding(crate::specs::Whole::logs_text))]
+pub fn put_logs<const N: usize>(out: &mut Text<N>, t: &TileInfo)
+    ensures text { out.new ≡ put N out.old (logs_text t.now) }
+    ensures size { length (logs_text t.now) ≤ 127 }
 {
     let logs = [
-        t.min_log2_cols as u16,
-        t.max_log2_cols as u16,
-        t.log2_cols as u16,
-        t.min_log2_rows as u16,
-        t.max_log2_rows as u16,
-        t.log2_rows as u16,
+        u16::from(t.min_log2_cols),
+        u16::from(t.max_log2_cols),
+        u16::from(t.log2_cols),
+        u16::from(t.min_log2_rows),
+        u16::from(t.max_log2_rows),
+        u16::from(t.log2_rows),
     ];
-    put_row(out, at, &logs, 6)
+    out.push_row(&logs, logs.len());
 }

@@ -76,12 +76,12 @@ or-true false c e = e
 
 -- an accepted tiling is such a one
 tiling_usable : (hdr : SequenceHeader) (s : List ℕ) (p : Place) → is_refusal (tiling_of hdr s p).answer ≡ false
-    → is_off (tiling_of hdr s p).fields.present || tiled (tiling_of hdr s p).fields.t ≡ true
+    → is_off (tiling_of hdr s p).value.present || tiled (tiling_of hdr s p).value.t ≡ true
 unfolding read_tiling then flag_if tile_info_if
 tiling_usable hdr s p = by (get_flag s p).value refl
   where
     by : (present : Bool) → (get_flag s p).value ≡ present → is_refusal (tiling_of hdr s p).answer ≡ false
-        → is_off (tiling_of hdr s p).fields.present || tiled (tiling_of hdr s p).fields.t ≡ true
+        → is_off (tiling_of hdr s p).value.present || tiled (tiling_of hdr s p).value.t ≡ true
     by true e = rw e (λ z. or-true (is_off (pick (get_flag s (get_flag s p).next).value Adaptive On)) _ (layout_tiled s (get_flag s (get_flag s p).next).next no_tile_info (args_before hdr) z))
     by false e = rw e (λ _. refl)
 
@@ -89,7 +89,7 @@ header_usable : (s : List ℕ) (p : Place) (strict : Bool) → IsAccepted s p st
 header_usable s p strict =
     let head = read_head s p in
     accepted_header (λ hdr. usable (seq_layout hdr) ≡ true) s p strict
-    (λ d z grain. record_usable head.hdr (tiling_of head.hdr s head.next).fields grain (head_in s p d) (tiling_usable head.hdr s head.next z))
+    (λ d z grain. record_usable head.hdr (tiling_of head.hdr s head.next).value grain (head_in s p d) (tiling_usable head.hdr s head.next z))
 
 pub accepted_usable : AcceptedUsable
 unfolding in_frame_domain

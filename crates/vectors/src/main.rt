@@ -20,7 +20,57 @@ use program::{read_full, report_written};
 use std::fs::File;
 use std::io;
 use std::io::Read;
-use verdicts::{Tally, Verdict, agrees, counted, signed};
+use verdicts::{Count, Tally, Verdict, agrees, counted, signed};
+
+#[derive(Clone, Copy, PartialEq, Eq)]
+enum Operation {
+    GetBit,
+    GetBits,
+    GetSbits,
+    GetVlc,
+    GetUniform,
+    GetRefUniform,
+    GetUleb128,
+    GetGolomb,
+    GetBitsSubexpU,
+    GetBitsSubexp,
+    Bytealign,
+    ParseTileInfo,
+    ParseSeqHdr,
+    ParseTileInfoFrmhdr,
+    ParseSegInfo,
+    Positions,
+    TileRectangles,
+    ParseTileInfoWithin,
+    ParseTileInfoFrmhdrWithin,
+    ParseFilmGrainData,
+    WriteTileInfo,
+}
+
+// In the order of their numbers in the file.
+const OPERATIONS: [Operation; 21] = [
+    Operation::GetBit,
+    Operation::GetBits,
+    Operation::GetSbits,
+    Operation::GetVlc,
+    Operation::GetUniform,
+    Operation::GetRefUniform,
+    Operation::GetUleb128,
+    Operation::GetGolomb,
+    Operation::GetBitsSubexpU,
+    Operation::GetBitsSubexp,
+    Operation::Bytealign,
+    Operation::ParseTileInfo,
+    Operation::ParseSeqHdr,
+    Operation::ParseTileInfoFrmhdr,
+    Operation::ParseSegInfo,
+    Operation::Positions,
+    Operation::TileRectangles,
+    Operation::ParseTileInfoWithin,
+    Operation::ParseTileInfoFrmhdrWithin,
+    Operation::ParseFilmGrainData,
+    Operation::WriteTileInfo,
+];
 
 // Numbers of a case, and the place behind them.
 #[derive(Clone, Copy)]
@@ -38,15 +88,9 @@ struct RowNumber {
     next: Place,
 }
 
-#[derive(Clone, Copy)]
-struct Turn {
-    tally: Tally,
-    more: bool,
-}
-
 // The number at i, and 0 past the end.
 fn u32_at(xs: &[u32], i: usize) -> u32 {
-    if i < xs.len() { xs[i] } else { 0 }
+    xs.get(i).copied().unwrap_or(0)
 }
 
 fn u8_at(xs: &[u32], i: usize) -> u8 {
@@ -61,57 +105,21 @@ fn i32_at(xs: &[u32], i: usize) -> i32 {
     signed(u32_at(xs, i))
 }
 
-// -1 - x
-fn i16_below_zero(x: u32) -> i16
-    requires { x < 2 ^ 15 }
-{
-    -1 - x as i16
-}
-
 // A number of 16 bits with its sign.
 fn i16_at(xs: &[u32], i: usize) -> i16 {
-    let n = u32_at(xs, i) % 65536;
-    if n < 0x8000 {
-        return n as i16;
-    }
-    i16_below_zero(0xffff - n)
-}
-
-fn i32_to_i64(x: i32) -> i64 {
-    x as i64
-}
-
-fn i16_to_i64(x: i16) -> i64 {
-    x as i64
-}
-
-fn u32_to_i64(x: u32) -> i64 {
-    x as i64
-}
-
-fn u16_to_i64(x: u16) -> i64 {
-    x as i64
-}
-
-fn u8_to_i64(x: u8) -> i64 {
-    x as i64
+    u16_at(xs, i).cast_signed()
 }
 
 // A count of bits or bytes; no case has one from 2^31 on.
 fn count(n: usize) -> i64 {
-    if n < 0x8000_0000 {
-        n as i64
-    } else {
-        0x8000_0000
-    }
+    n.min(0x8000_0000) as i64
 }
 
 // The number at i, at most `most`.
 fn held_at(xs: &[u32], i: usize, most: usize) -> usize
     ensures { result ≤ most }
 {
-    let n = u32_at(xs, i) as usize;
-    if n < most { n } else { most }
+    (u32_at(xs, i) as usize).min(most)
 }
 
 // The nine numbers of a layout from i on, in a buffer with room for two more.
@@ -119,10 +127,8 @@ fn info_at(xs: &[u32], i: usize) -> [u8; 11]
     requires { i ≤ 512 }
 {
     let mut info = [0u8; 11];
-    let mut k: usize = 0;
-    while k < 9 {
+    for k in 0..9 {
         info[k] = u8_at(xs, i + k);
-        k += 1;
     }
     info
 }
@@ -132,10 +138,8 @@ fn starts_at(xs: &[u32], i: usize) -> [u16; 67]
     requires { i ≤ 512 }
 {
     let mut starts = [0u16; 67];
-    let mut k: usize = 0;
-    while k < 65 {
+    for k in 0..65 {
         starts[k] = u16_at(xs, i + k);
-        k += 1;
     }
     starts
 }
@@ -143,10 +147,8 @@ fn starts_at(xs: &[u32], i: usize) -> [u16; 67]
 // The 16 deltas of the segments, in a buffer with room for two more.
 fn first_deltas(xs: &[u32]) -> [i16; 18] {
     let mut delta_q = [0i16; 18];
-    let mut k: usize = 0;
-    while k < 16 {
+    for k in 0..16 {
         delta_q[k] = i16_at(xs, k);
-        k += 1;
     }
     delta_q
 }
@@ -155,10 +157,8 @@ fn first_deltas(xs: &[u32]) -> [i16; 18] {
 fn numbers_from(first: u32) -> [u32; 450] {
     let low = first % 0x4000_0000;
     let mut numbers = [0u32; 450];
-    let mut k: usize = 0;
-    while k < 450 {
+    for k in 0..450 {
         numbers[k] = low + k as u32;
-        k += 1;
     }
     numbers
 }
@@ -167,10 +167,8 @@ fn numbers_from(first: u32) -> [u32; 450] {
 fn bytes_from(first: u32) -> [u8; 256] {
     let low = first % 256;
     let mut bytes = [0u8; 256];
-    let mut k: usize = 0;
-    while k < 256 {
+    for k in 0..256 {
         bytes[k] = ((low + k as u32) % 256) as u8;
-        k += 1;
     }
     bytes
 }
@@ -183,98 +181,27 @@ fn store(out: &mut [i64], i: usize, n: i64)
     }
 }
 
-fn byte_in(xs: &[u8], k: usize) -> i64 {
-    if k < xs.len() { u8_to_i64(xs[k]) } else { 0 }
-}
-
-// The first n bytes go to the places from i on.
-fn store_bytes(out: &mut [i64], i: usize, xs: &[u8], n: usize)
-    requires { (i ≤ 512) × (n ≤ 512) }
+// Numbers go to the places from i on.
+fn store_row<T: Copy + Into<i64>>(out: &mut [i64], i: usize, xs: &[T])
     ensures { length out.new ≡ length out.old }
 {
-    let mut k: usize = 0;
-    while k < n {
-        store(&mut *out, i + k, byte_in(xs, k));
-        k += 1;
-    }
-}
-
-fn word_in(xs: &[u16], k: usize) -> i64 {
-    if k < xs.len() { u16_to_i64(xs[k]) } else { 0 }
-}
-
-// The first n words go to the places from i on.
-fn store_words(out: &mut [i64], i: usize, xs: &[u16], n: usize)
-    requires { (i ≤ 512) × (n ≤ 512) }
-    ensures { length out.new ≡ length out.old }
-{
-    let mut k: usize = 0;
-    while k < n {
-        store(&mut *out, i + k, word_in(xs, k));
-        k += 1;
-    }
-}
-
-fn delta_in(xs: &[i16], k: usize) -> i64 {
-    if k < xs.len() { i16_to_i64(xs[k]) } else { 0 }
-}
-
-// The first n deltas, or numbers of film grain, go to the places from i on.
-fn store_deltas(out: &mut [i64], i: usize, xs: &[i16], n: usize)
-    requires { (i ≤ 512) × (n ≤ 512) }
-    ensures { length out.new ≡ length out.old }
-{
-    let mut k: usize = 0;
-    while k < n {
-        store(&mut *out, i + k, delta_in(xs, k));
-        k += 1;
-    }
-}
-
-fn number_in(xs: &[u32], k: usize) -> i64 {
-    if k < xs.len() { u32_to_i64(xs[k]) } else { 0 }
-}
-
-// The first n numbers go to the places from i on.
-fn store_numbers(out: &mut [i64], i: usize, xs: &[u32], n: usize)
-    requires { (i ≤ 512) × (n ≤ 512) }
-    ensures { length out.new ≡ length out.old }
-{
-    let mut k: usize = 0;
-    while k < n {
-        store(&mut *out, i + k, number_in(xs, k));
-        k += 1;
-    }
-}
-
-fn field_in(xs: &[i64], k: usize) -> i64 {
-    if k < xs.len() { xs[k] } else { 0 }
-}
-
-// The first n fields go to the places from i on.
-fn store_fields(out: &mut [i64], i: usize, xs: &[i64], n: usize)
-    requires { (i ≤ 512) × (n ≤ 512) }
-    ensures { length out.new ≡ length out.old }
-{
-    let mut k: usize = 0;
-    while k < n {
-        store(&mut *out, i + k, field_in(xs, k));
-        k += 1;
+    for (to, x) in out.iter_mut().skip(i).zip(xs) {
+        *to = (*x).into();
     }
 }
 
 // The 139 numbers of a layout go to the places from i on.
-fn store_layout(out: &mut [i64], i: usize, info: &[u8], cols: &[u16], rows: &[u16])
+fn store_layout(out: &mut [i64], i: usize, info: &[u8; 11], cols: &[u16; 67], rows: &[u16; 67])
     requires { i ≤ 200 }
 {
-    store_bytes(&mut *out, i, info, 9);
-    store_words(&mut *out, i + 9, cols, 65);
-    store_words(&mut *out, i + 74, rows, 65);
+    store_row(&mut *out, i, &info[..9]);
+    store_row(&mut *out, i + 9, &cols[..65]);
+    store_row(&mut *out, i + 74, &rows[..65]);
 }
 
 // The layout's buffers are lent as long as the arguments say, and so below. A limit stands behind these lengths.
 fn lend_layout(
-    kind: u32,
+    operation: Operation,
     s: &[u8],
     position: &mut usize,
     error: &mut u8,
@@ -286,7 +213,7 @@ fn lend_layout(
     let a = held_at(args, 146, info.len());
     let b = held_at(args, 147, cols.len());
     let c = held_at(args, 148, rows.len());
-    if kind == 17 {
+    if operation == Operation::ParseTileInfoWithin {
         return mubanlig_parse_tile_info_within(
             s,
             &mut *position,
@@ -323,7 +250,7 @@ fn lend_layout(
 }
 
 fn replay_layout(
-    kind: u32,
+    operation: Operation,
     s: &[u8],
     position: &mut usize,
     error: &mut u8,
@@ -334,7 +261,7 @@ fn replay_layout(
     let mut cols = starts_at(args, 9);
     let mut rows = starts_at(args, 74);
     let answer = lend_layout(
-        kind,
+        operation,
         s,
         &mut *position,
         &mut *error,
@@ -395,13 +322,13 @@ fn replay_header(
         &mut cols,
         &mut rows,
     );
-    store_fields(&mut *out, 3, &hdr, 146);
+    store_row(&mut *out, 3, &hdr[..146]);
     store_layout(&mut *out, 149, &info, &cols, &rows);
     answer
 }
 
 fn lend_frame(
-    kind: u32,
+    operation: Operation,
     s: &[u8],
     position: &mut usize,
     error: &mut u8,
@@ -420,7 +347,7 @@ fn lend_frame(
     let d = held_at(args, 291, seq_info.len());
     let e = held_at(args, 292, seq_cols.len());
     let f = held_at(args, 293, seq_rows.len());
-    if kind == 18 {
+    if operation == Operation::ParseTileInfoFrmhdrWithin {
         return mubanlig_parse_tile_info_frmhdr_within(
             s,
             &mut *position,
@@ -469,7 +396,7 @@ fn lend_frame(
 }
 
 fn replay_frame(
-    kind: u32,
+    operation: Operation,
     s: &[u8],
     position: &mut usize,
     error: &mut u8,
@@ -484,7 +411,7 @@ fn replay_frame(
     let seq_cols = starts_at(args, 158);
     let seq_rows = starts_at(args, 223);
     let answer = lend_frame(
-        kind,
+        operation,
         s,
         &mut *position,
         &mut *error,
@@ -497,7 +424,7 @@ fn replay_frame(
         &seq_cols,
         &seq_rows,
     );
-    store(&mut *out, 3, u8_to_i64(sb128));
+    store(&mut *out, 3, i64::from(sb128));
     store_layout(&mut *out, 4, &info, &cols, &rows);
     answer
 }
@@ -539,8 +466,8 @@ fn replay_segments(
         &mut delta_q,
         &mut masks,
     );
-    store_deltas(&mut *out, 3, &delta_q, 16);
-    store_words(&mut *out, 19, &masks, 3);
+    store_row(&mut *out, 3, &delta_q[..16]);
+    store_row(&mut *out, 19, &masks[..3]);
     answer
 }
 
@@ -571,7 +498,7 @@ fn replay_grain(
 ) -> u32 {
     let mut fgd = [7i16; 188];
     let answer = lend_grain(s, &mut *position, &mut *error, args, &mut fgd);
-    store_deltas(&mut *out, 3, &fgd, 186);
+    store_row(&mut *out, 3, &fgd[..186]);
     answer
 }
 
@@ -581,23 +508,19 @@ fn lend_rectangles(
     cols: &[u16],
     rows: &[u16],
     numbers: &mut [u32],
-    len: usize,
 ) -> u32 {
     let a = held_at(args, 144, info.len());
     let b = held_at(args, 145, cols.len());
     let c = held_at(args, 146, rows.len());
-    if len <= numbers.len() {
-        return mubanlig_tile_rectangles(
-            &info[..a],
-            &cols[..b],
-            &rows[..c],
-            u8_at(args, 139),
-            i32_at(args, 140),
-            i32_at(args, 141),
-            &mut numbers[..len],
-        );
-    }
-    255
+    mubanlig_tile_rectangles(
+        &info[..a],
+        &cols[..b],
+        &rows[..c],
+        u8_at(args, 139),
+        i32_at(args, 140),
+        i32_at(args, 141),
+        &mut *numbers,
+    )
 }
 
 // The answer, then the numbers lent; how many these are in all.
@@ -609,9 +532,9 @@ fn replay_rectangles(args: &[u32], out: &mut [i64]) -> usize
     let rows = starts_at(args, 74);
     let mut numbers = numbers_from(u32_at(args, 143));
     let len = held_at(args, 142, 450);
-    let answer = lend_rectangles(args, &info, &cols, &rows, &mut numbers, len);
-    store(&mut *out, 0, answer as i64);
-    store_numbers(&mut *out, 1, &numbers, len);
+    let answer = lend_rectangles(args, &info, &cols, &rows, &mut numbers[..len]);
+    store(&mut *out, 0, i64::from(answer));
+    store_row(&mut *out, 1, &numbers[..len]);
     1 + len
 }
 
@@ -621,29 +544,25 @@ fn lend_writing(
     cols: &[u16],
     rows: &[u16],
     bytes: &mut [u8],
-    len: usize,
     bits: &mut u32,
 ) -> u32 {
     let a = held_at(args, 148, info.len());
     let b = held_at(args, 149, cols.len());
     let c = held_at(args, 150, rows.len());
-    if len <= bytes.len() {
-        return mubanlig_write_tile_info(
-            &info[..a],
-            &cols[..b],
-            &rows[..c],
-            i32_at(args, 139),
-            u8_at(args, 140),
-            u8_at(args, 141),
-            i32_at(args, 142),
-            i32_at(args, 143),
-            u8_at(args, 144),
-            u8_at(args, 145),
-            &mut bytes[..len],
-            &mut *bits,
-        );
-    }
-    255
+    mubanlig_write_tile_info(
+        &info[..a],
+        &cols[..b],
+        &rows[..c],
+        i32_at(args, 139),
+        u8_at(args, 140),
+        u8_at(args, 141),
+        i32_at(args, 142),
+        i32_at(args, 143),
+        u8_at(args, 144),
+        u8_at(args, 145),
+        &mut *bytes,
+        &mut *bits,
+    )
 }
 
 // The answer and how many bits, then the bytes lent; how many numbers these are in all.
@@ -656,27 +575,39 @@ fn replay_writing(args: &[u32], out: &mut [i64]) -> usize
     let mut bytes = bytes_from(u32_at(args, 147));
     let mut bits: u32 = 7;
     let len = held_at(args, 146, 256);
-    let answer = lend_writing(args, &info, &cols, &rows, &mut bytes, len, &mut bits);
-    store(&mut *out, 0, answer as i64);
-    store(&mut *out, 1, u32_to_i64(bits));
-    store_bytes(&mut *out, 2, &bytes, len);
+    let answer = lend_writing(args, &info, &cols, &rows, &mut bytes[..len], &mut bits);
+    store(&mut *out, 0, i64::from(answer));
+    store(&mut *out, 1, i64::from(bits));
+    store_row(&mut *out, 2, &bytes[..len]);
     2 + len
 }
 
 // The value of a reading.
-fn replay_reading(kind: u32, s: &[u8], position: &mut usize, error: &mut u8, args: &[u32]) -> i64 {
+fn replay_reading(
+    operation: Operation,
+    s: &[u8],
+    position: &mut usize,
+    error: &mut u8,
+    args: &[u32],
+) -> i64 {
     let p = &mut *position;
     let e = &mut *error;
-    match kind {
-        0 => mubanlig_get_bit(s, &mut *p, &mut *e) as i64,
-        1 => mubanlig_get_bits(s, &mut *p, &mut *e, i32_at(args, 0)) as i64,
-        2 => i32_to_i64(mubanlig_get_sbits(s, &mut *p, &mut *e, i32_at(args, 0))),
-        3 => mubanlig_get_vlc(s, &mut *p, &mut *e) as i64,
-        4 => mubanlig_get_uniform(s, &mut *p, &mut *e, u32_at(args, 0)) as i64,
-        5 => mubanlig_get_ref_uniform(s, &mut *p, &mut *e, u32_at(args, 0), u32_at(args, 1)) as i64,
-        6 => mubanlig_get_uleb128(s, &mut *p, &mut *e) as i64,
-        7 => mubanlig_get_golomb(s, &mut *p, &mut *e, u32_at(args, 0)) as i64,
-        8 => mubanlig_get_bits_subexp_u(
+    match operation {
+        Operation::GetBit => mubanlig_get_bit(s, &mut *p, &mut *e) as i64,
+        Operation::GetBits => mubanlig_get_bits(s, &mut *p, &mut *e, i32_at(args, 0)) as i64,
+        Operation::GetSbits => i64::from(mubanlig_get_sbits(s, &mut *p, &mut *e, i32_at(args, 0))),
+        Operation::GetVlc => mubanlig_get_vlc(s, &mut *p, &mut *e) as i64,
+        Operation::GetUniform => mubanlig_get_uniform(s, &mut *p, &mut *e, u32_at(args, 0)) as i64,
+        Operation::GetRefUniform => mubanlig_get_ref_uniform(
+            s,
+            &mut *p,
+            &mut *e,
+            u32_at(args, 0),
+            u32_at(args, 1),
+        ) as i64,
+        Operation::GetUleb128 => mubanlig_get_uleb128(s, &mut *p, &mut *e) as i64,
+        Operation::GetGolomb => mubanlig_get_golomb(s, &mut *p, &mut *e, u32_at(args, 0)) as i64,
+        Operation::GetBitsSubexpU => mubanlig_get_bits_subexp_u(
             s,
             &mut *p,
             &mut *e,
@@ -684,7 +615,7 @@ fn replay_reading(kind: u32, s: &[u8], position: &mut usize, error: &mut u8, arg
             u32_at(args, 1),
             i32_at(args, 2),
         ) as i64,
-        9 => i32_to_i64(mubanlig_get_bits_subexp(
+        Operation::GetBitsSubexp => i64::from(mubanlig_get_bits_subexp(
             s,
             &mut *p,
             &mut *e,
@@ -698,89 +629,86 @@ fn replay_reading(kind: u32, s: &[u8], position: &mut usize, error: &mut u8, arg
     }
 }
 
-// The answer of a parse function; its record goes into out.
-fn replay_record(
-    kind: u32,
-    s: &[u8],
-    position: &mut usize,
-    error: &mut u8,
-    args: &[u32],
-    out: &mut [i64],
-) -> u32 {
-    match kind {
-        12 => replay_header(s, &mut *position, &mut *error, args, &mut *out),
-        14 => replay_segments(s, &mut *position, &mut *error, args, &mut *out),
-        19 => replay_grain(s, &mut *position, &mut *error, args, &mut *out),
-        11 | 17 => replay_layout(kind, s, &mut *position, &mut *error, args, &mut *out),
-        _ => replay_frame(kind, s, &mut *position, &mut *error, args, &mut *out),
-    }
-}
-
+// The value of a reading or the answer of a parse function, whose record goes into out.
 fn replay_value(
-    kind: u32,
+    operation: Operation,
     s: &[u8],
     position: &mut usize,
     error: &mut u8,
     args: &[u32],
     out: &mut [i64],
 ) -> i64 {
-    if kind < 11 {
-        return replay_reading(kind, s, &mut *position, &mut *error, args);
-    }
-    replay_record(kind, s, &mut *position, &mut *error, args, &mut *out) as i64
+    let answer = match operation {
+        Operation::ParseSeqHdr => replay_header(s, &mut *position, &mut *error, args, &mut *out),
+        Operation::ParseSegInfo => replay_segments(s, &mut *position, &mut *error, args, &mut *out),
+        Operation::ParseFilmGrainData => {
+            replay_grain(s, &mut *position, &mut *error, args, &mut *out)
+        }
+        Operation::ParseTileInfo | Operation::ParseTileInfoWithin => {
+            replay_layout(operation, s, &mut *position, &mut *error, args, &mut *out)
+        }
+        Operation::ParseTileInfoFrmhdr | Operation::ParseTileInfoFrmhdrWithin => {
+            replay_frame(operation, s, &mut *position, &mut *error, args, &mut *out)
+        }
+        _ => return replay_reading(operation, s, &mut *position, &mut *error, args),
+    };
+    i64::from(answer)
 }
 
 // How many numbers the outcome of a reading or of a parse function has.
-fn outcome_count(kind: u32) -> usize
+fn outcome_count(operation: Operation) -> usize
     ensures { result ≤ 512 }
 {
-    match kind {
-        11 | 17 => 142,
-        12 => 288,
-        13 | 18 => 143,
-        14 => 22,
-        19 => 189,
+    match operation {
+        Operation::ParseTileInfo | Operation::ParseTileInfoWithin => 142,
+        Operation::ParseSeqHdr => 288,
+        Operation::ParseTileInfoFrmhdr | Operation::ParseTileInfoFrmhdrWithin => 143,
+        Operation::ParseSegInfo => 22,
+        Operation::ParseFilmGrainData => 189,
         _ => 3,
     }
 }
 
 // Replays a case; its outcome goes into out, and so many numbers it has.
-fn replay_kind(kind: u32, s: &[u8], place: &[u32], args: &[u32], out: &mut [i64]) -> usize
+fn replay_operation(
+    operation: Operation,
+    s: &[u8],
+    place: &[u32],
+    args: &[u32],
+    out: &mut [i64],
+) -> usize
     ensures { result ≤ 512 }
 {
     let mut position = u32_at(place, 0) as usize;
     let mut error = u8_at(place, 1);
-    if kind == 15 {
-        store(&mut *out, 0, count(mubanlig_byte_pos(s, position)));
-        store(&mut *out, 1, count(mubanlig_remaining_bytes(s, position)));
-        return 2;
+    match operation {
+        Operation::Positions => {
+            store(&mut *out, 0, count(mubanlig_byte_pos(s, position)));
+            store(&mut *out, 1, count(mubanlig_remaining_bytes(s, position)));
+            2
+        }
+        Operation::TileRectangles => replay_rectangles(args, &mut *out),
+        Operation::WriteTileInfo => replay_writing(args, &mut *out),
+        _ => {
+            let value = replay_value(operation, s, &mut position, &mut error, args, &mut *out);
+            store(&mut *out, 0, value);
+            store(&mut *out, 1, count(position));
+            store(&mut *out, 2, i64::from(error));
+            outcome_count(operation)
+        }
     }
-    if kind == 16 {
-        return replay_rectangles(args, &mut *out);
-    }
-    if kind == 20 {
-        return replay_writing(args, &mut *out);
-    }
-    let value = replay_value(kind, s, &mut position, &mut error, args, &mut *out);
-    store(&mut *out, 0, value);
-    store(&mut *out, 1, count(position));
-    store(&mut *out, 2, u8_to_i64(error));
-    outcome_count(kind)
 }
 
-fn case_agrees(kind: u32, s: &[u8], place: Row, args: Row, outcome: Row) -> bool {
-    let start = place.numbers;
-    let given = args.numbers;
-    let stored = outcome.numbers;
+fn case_agrees(operation: Operation, s: &[u8], place: Row, args: Row, outcome: Row) -> bool {
     let mut out = [0i64; 512];
-    let n = replay_kind(kind, s, &start, &given, &mut out);
-    agrees(&out, n, &stored, outcome.count)
+    let n = replay_operation(operation, s, &place.numbers, &args.numbers, &mut out);
+    agrees(&out, n, &outcome.numbers, outcome.count)
 }
 
 fn at_most_512(n: u32) -> usize
     ensures { result ≤ 512 }
 {
-    if n < 512 { n as usize } else { 512 }
+    n.min(512) as usize
 }
 
 // The next number of a row, behind which so many zeros are left; behind a 0 stands how many follow it.
@@ -793,20 +721,18 @@ fn next_number(case: &[u8], p: Place, zeros: u32) -> RowNumber {
         };
     }
     let r = get_uleb128(case, p);
-    let behind = r.next;
     if r.value == 0 {
-        let z = get_uleb128(case, behind);
-        let next = z.next;
+        let z = get_uleb128(case, r.next);
         return RowNumber {
             value: 0,
             zeros: z.value,
-            next,
+            next: z.next,
         };
     }
     RowNumber {
         value: r.value,
         zeros: 0,
-        next: behind,
+        next: r.next,
     }
 }
 
@@ -816,13 +742,11 @@ fn numbers(case: &[u8], p: Place, n: u32) -> Row {
     let mut numbers = [0u32; 512];
     let mut next = p;
     let mut zeros: u32 = 0;
-    let mut i: usize = 0;
-    while i < count {
+    for i in 0..count {
         let r = next_number(case, next, zeros);
         numbers[i] = r.value;
         zeros = r.zeros;
         next = r.next;
-        i += 1;
     }
     Row {
         numbers,
@@ -859,10 +783,12 @@ fn replay(case: &[u8]) -> Verdict {
             let place = counted_row(case, behind);
             let args = counted_row(case, place.next);
             let outcome = counted_row(case, args.next);
-            return Verdict {
-                kind: kind.value as usize,
-                agrees: case_agrees(kind.value, &case[from..to], place, args, outcome),
-            };
+            if let Some(operation) = OPERATIONS.get(kind.value as usize) {
+                return Verdict {
+                    kind: kind.value as usize,
+                    agrees: case_agrees(*operation, &case[from..to], place, args, outcome),
+                };
+            }
         }
     }
     Verdict {
@@ -871,61 +797,27 @@ fn replay(case: &[u8]) -> Verdict {
     }
 }
 
-fn small(x: u8) -> usize
-    ensures { result < 256 }
-{
-    x as usize
-}
-
-// Two bytes, the low one first.
-fn size_of(low: u8, high: u8) -> usize
-    ensures { result < 65536 }
-{
-    small(low) + 256 * small(high)
-}
-
-fn read_case<R: Read>(file: &mut R, case: &mut [u8], size: usize) -> io::Result<usize> {
-    if size <= case.len() {
-        return read_full(&mut *file, &mut case[..size]);
-    }
-    Ok(0)
-}
-
-fn replay_first(case: &[u8], size: usize) -> Verdict {
-    if size <= case.len() {
-        return replay(&case[..size]);
-    }
-    Verdict {
-        kind: 21,
-        agrees: false,
-    }
-}
-
-// The next case of the file, behind its length in two bytes.
-fn next_case<R: Read>(file: &mut R, tally: Tally) -> io::Result<Turn> {
+// The verdict on the next case of the file, which stands behind its length in two bytes, the low one first.
+fn next_verdict<R: Read>(file: &mut R) -> io::Result<Option<Verdict>> {
     let mut head = [0u8; 2];
     let n = read_full(&mut *file, &mut head)?;
-    if n == 2 {
-        let size = size_of(head[0], head[1]);
-        let mut case = [0u8; 65536];
-        read_case(&mut *file, &mut case, size)?;
-        return Ok(Turn {
-            tally: counted(tally, replay_first(&case, size)),
-            more: true,
-        });
+    if n < 2 {
+        return Ok(None);
     }
-    Ok(Turn { tally, more: false })
+    let size = u16::from_le_bytes(head) as usize;
+    let mut case = [0u8; 65536];
+    read_full(&mut *file, &mut case[..size])?;
+    Ok(Some(replay(&case[..size])))
 }
 
+// At most a million cases.
 fn replay_all<R: Read>(file: &mut R, none: Tally) -> io::Result<Tally> {
     let mut tally = none;
-    let mut more = true;
-    let mut turns: u32 = 1_000_000;
-    while 0 < turns && more {
-        let t = next_case(&mut *file, tally)?;
-        tally = t.tally;
-        more = t.more;
-        turns -= 1;
+    for _turn in 0..1_000_000 {
+        let Some(verdict) = next_verdict(&mut *file)? else {
+            break;
+        };
+        tally = counted(tally, verdict);
     }
     Ok(tally)
 }
@@ -934,72 +826,58 @@ fn print<R: Print>(rt: &R, text: &[u8]) -> bool {
     rt.write_all(text).is_ok()
 }
 
-// The name of a reading.
-fn print_reading<R: Print>(rt: &R, kind: usize) -> bool {
-    match kind {
-        0 => print(rt, b"get_bit"),
-        1 => print(rt, b"get_bits"),
-        2 => print(rt, b"get_sbits"),
-        3 => print(rt, b"get_vlc"),
-        4 => print(rt, b"get_uniform"),
-        5 => print(rt, b"get_ref_uniform"),
-        6 => print(rt, b"get_uleb128"),
-        7 => print(rt, b"get_golomb"),
-        8 => print(rt, b"get_bits_subexp_u"),
-        9 => print(rt, b"get_bits_subexp"),
-        _ => print(rt, b"bytealign"),
-    }
-}
-
-// The name of any other operation.
-fn print_operation<R: Print>(rt: &R, kind: usize) -> bool {
-    match kind {
-        11 => print(rt, b"parse_tile_info"),
-        12 => print(rt, b"parse_seq_hdr"),
-        13 => print(rt, b"parse_tile_info_frmhdr"),
-        14 => print(rt, b"parse_seg_info"),
-        15 => print(rt, b"positions"),
-        16 => print(rt, b"tile_rectangles"),
-        17 => print(rt, b"parse_tile_info_within"),
-        18 => print(rt, b"parse_tile_info_frmhdr_within"),
-        19 => print(rt, b"parse_film_grain_data"),
-        _ => print(rt, b"write_tile_info"),
-    }
-}
-
-fn print_name<R: Print>(rt: &R, kind: usize) -> bool {
-    if kind < 11 {
-        print_reading(rt, kind)
-    } else {
-        print_operation(rt, kind)
+fn print_name<R: Print>(rt: &R, operation: Operation) -> bool {
+    match operation {
+        Operation::GetBit => print(rt, b"get_bit"),
+        Operation::GetBits => print(rt, b"get_bits"),
+        Operation::GetSbits => print(rt, b"get_sbits"),
+        Operation::GetVlc => print(rt, b"get_vlc"),
+        Operation::GetUniform => print(rt, b"get_uniform"),
+        Operation::GetRefUniform => print(rt, b"get_ref_uniform"),
+        Operation::GetUleb128 => print(rt, b"get_uleb128"),
+        Operation::GetGolomb => print(rt, b"get_golomb"),
+        Operation::GetBitsSubexpU => print(rt, b"get_bits_subexp_u"),
+        Operation::GetBitsSubexp => print(rt, b"get_bits_subexp"),
+        Operation::Bytealign => print(rt, b"bytealign"),
+        Operation::ParseTileInfo => print(rt, b"parse_tile_info"),
+        Operation::ParseSeqHdr => print(rt, b"parse_seq_hdr"),
+        Operation::ParseTileInfoFrmhdr => print(rt, b"parse_tile_info_frmhdr"),
+        Operation::ParseSegInfo => print(rt, b"parse_seg_info"),
+        Operation::Positions => print(rt, b"positions"),
+        Operation::TileRectangles => print(rt, b"tile_rectangles"),
+        Operation::ParseTileInfoWithin => print(rt, b"parse_tile_info_within"),
+        Operation::ParseTileInfoFrmhdrWithin => print(rt, b"parse_tile_info_frmhdr_within"),
+        Operation::ParseFilmGrainData => print(rt, b"parse_film_grain_data"),
+        Operation::WriteTileInfo => print(rt, b"write_tile_info"),
     }
 }
 
 // The name, how many were replayed and how many agree. Could the line's end be written?
-fn print_line<R: Print>(rt: &R, t: Tally, kind: usize) -> bool {
-    let replayed = t.replayed;
-    let agree = t.agree;
-    print_name(rt, kind);
+fn print_line<R: Print>(rt: &R, operation: Operation, count: Count) -> bool {
+    print_name(rt, operation);
     print(rt, b" ");
-    rt.print(u32_at(&replayed, kind)).is_ok();
+    rt.print(count.replayed).is_ok();
     print(rt, b" ");
-    rt.print(u32_at(&agree, kind)).is_ok();
+    rt.print(count.agree).is_ok();
     print(rt, b"\n")
 }
 
 // A line for each operation. Could the last be written?
 fn print_tally<R: Print>(rt: &R, t: Tally) -> bool {
-    for kind in 0..20 {
-        print_line(rt, t, kind);
+    let mut written = true;
+    for (operation, count) in OPERATIONS.iter().zip(&t.counts) {
+        written = print_line(rt, *operation, *count);
     }
-    print_line(rt, t, 20)
+    written
 }
 
 fn main(rt: HostRuntime) -> io::Result<()> {
     let mut file = File::open(&rt, "answers")?;
     let none = Tally {
-        replayed: [0; 21],
-        agree: [0; 21],
+        counts: [Count {
+            replayed: 0,
+            agree: 0,
+        }; 21],
     };
     let tally = replay_all(&mut file, none)?;
     report_written(&rt, print_tally(&rt, tally));

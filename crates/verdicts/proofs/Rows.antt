@@ -1,19 +1,18 @@
 -- Laws of the comparison. Assumes nothing.
-use mathlib.Core.Bool.{Bool, true, false, ◌&&◌, ◌||◌, and-true, and-false, or-true, false≢true}
+use mathlib.Core.Bool.{Bool, true, false, ◌&&◌, ◌||◌, and-false, or-true, false≢true}
 use mathlib.Core.List.{List, [], ◌∷◌}
 use mathlib.Core.Logic.{◌⊎◌, inl, inr, ⊎_elim}
 use mathlib.Core.Path.{◌≡◌, refl, sym, ap, ◌∙◌}
-use Prim.Native.Nat.{ℕ, zero, suc, ◌+◌, ◌-◌, ◌^◌, ◌≤◌, ◌<◌}
+use Prim.Native.Nat.{ℕ, zero, suc, ◌-◌, ◌^◌, ◌≤◌, ◌<◌}
 use native.Mathlib.Nat.{lt_of_lt_of_le, not-suc-le-zero}
-use native.Mathlib.Numerals.{add-one}
 use native.Mathlib.Omega.{arith}
 use borrow.Author.Tests.{eqb-true, eqb-false, eq-eqb, ne_eqb, le-leb, lt-leb}
 use lib.Dec.{eqb, lit≤}
 use lib.IntN.{ℤ, pos, negsuc}
-use lib.ListN.{length, take, drop, get_or}
-use lib.Seq.{drop-cons, drop-length}
+use lib.ListN.{length, take, get_or}
 use mir.Syntax.{w32, w64}
 use mir.Val.{Fits, SFits, of_z}
+use Rattle.std.specs.List.{list_all, zip}
 use Rattle.getbits.specs.Bits.{signed_of}
 use Rattle.verdicts.specs.Rows.{eq_z, stands, all_same, agreeing, Stands, AllSame, Tells}
 
@@ -48,23 +47,13 @@ other_count [] (n ∷ ns) h = refl
 other_count (x ∷ xs) [] h = refl
 other_count (x ∷ xs) (n ∷ ns) h = rw (← other_count xs ns (λ e. h (ap suc e))) (sym (and-false (stands x n)))
 
--- before the first number
-pub from_first : (xs : List ℤ) (ns : List ℕ) → all_same xs ns ≡ (true && all_same (drop 0 xs) (drop 0 ns))
-from_first xs ns = refl
-
--- one number more
-pub one_on : (xs : List ℤ) (ns : List ℕ) (good : Bool) (i : ℕ) → i < length xs → i < length ns
-    → all_same xs ns ≡ (good && all_same (drop i xs) (drop i ns))
-    → all_same xs ns ≡ ((good && stands (get_or xs i (pos 0)) (get_or ns i 0)) && all_same (drop (i + 1) xs) (drop (i + 1) ns))
+-- two rows of one length, number by number
+pub one_by_one : (xs : List ℤ) (ns : List ℕ) → length xs ≡ length ns → list_all (λ (p : ℤ × ℕ). stands p.0 p.1) (zip xs ns) ≡ all_same xs ns
 unfolding all_same
-one_on xs ns true i h k e = e ∙ rw (add-one i, drop-cons xs i (pos 0) h, drop-cons ns i 0 k)
-one_on xs ns false i h k e = e
-
--- behind the last
-pub at_end : (xs : List ℤ) (ns : List ℕ) (good : Bool) (i : ℕ) → length xs ≡ i → length ns ≡ i
-    → all_same xs ns ≡ (good && all_same (drop i xs) (drop i ns)) → good ≡ all_same xs ns
-unfolding all_same
-at_end xs ns good i h k e = sym (and-true good) ∙ sym (rw (← h, drop-length xs, h, ← k, drop-length ns) at e)
+one_by_one [] [] h = refl
+one_by_one [] (n ∷ ns) h = absurd (omega arith)
+one_by_one (x ∷ xs) [] h = absurd (omega arith)
+one_by_one (x ∷ xs) (n ∷ ns) h = ap (λ (t : Bool). stands x n && t) (one_by_one xs ns (omega arith))
 
 -- a test of two whole numbers, and of two questions
 equal : (x y : ℤ) → eq_z x y ≡ true → x ≡ y

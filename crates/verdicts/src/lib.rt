@@ -1,16 +1,24 @@
 // Does a replayed case give the stored numbers? How many did?
 #![tactic(auto)]
 
-ghost use Rattle.std.specs.Prelude.{◌≡◌, ◌^◌, ◌<◌, negsuc};
+ghost use Rattle.std.specs.Prelude.{◌≡◌, ℕ, ℤ, ◌+◌, ◌-◌, ◌^◌, ◌<◌, min};
+ghost use Rattle.std.specs.List.{list_all, zip};
+ghost use Rattle.getbits.specs.Chain.{pick};
 ghost use Rattle.getbits.specs.Bits.{signed_of};
 ghost use Rattle.verdicts.specs.Rows.{stands, all_same, agreeing, AllSame, Tells};
-ghost use Rattle.verdicts.specs.Counts.{one_more, counted};
+ghost use Rattle.verdicts.specs.Counts.{one_more, replayed, agree};
 
-// How many cases of each operation were replayed, and how many agree.
+// How many cases of an operation were replayed, and how many agree.
+#[derive(Clone, Copy)]
+pub struct Count {
+    pub replayed: u32,
+    pub agree: u32,
+}
+
+// The counts of each operation.
 #[derive(Clone, Copy)]
 pub struct Tally {
-    pub replayed: [u32; 21],
-    pub agree: [u32; 21],
+    pub counts: [Count; 21],
 }
 
 // The operation of a case, and whether it gives the stored numbers.
@@ -20,29 +28,25 @@ pub struct Verdict {
     pub agrees: bool,
 }
 
-// -1 - x
-fn below_zero(x: u32) -> i32
-    requires { x < 2 ^ 31 }
-    ensures { result ≡ negsuc x }
-{
-    -1 - x as i32
-}
-
 // A number from 2^31 up stands for itself less 2^32.
 pub fn signed(n: u32) -> i32
     ensures { result ≡ signed_of 32 n }
 {
-    if n < 0x8000_0000 {
-        return n as i32;
-    }
-    below_zero(0xffff_ffff - n)
+    n.cast_signed()
 }
 
 // No number can be both one from 2^31 up and one below 0, so one of the two is meant.
 fn same(ours: i64, stored: u32) -> bool
     ensures { result ≡ stands ours stored }
 {
-    (ours == stored as i64) | (ours == signed(stored) as i64)
+    (ours == i64::from(stored)) | (ours == i64::from(signed(stored)))
+}
+
+// Does each stored number stand for its own?
+fn each_stands(ours: &[i64], stored: &[u32]) -> bool
+    ensures { result ≡ list_all (λ (p : ℤ × ℕ). stands p.0 p.1) (zip ours.now stored.now) }
+{
+    ours.iter().zip(stored).all(|(x, n)| same(*x, *n))
 }
 
 // Are these the stored numbers?
@@ -53,16 +57,10 @@ fn all_same(ours: &[i64], stored: &[u32]) -> bool
     if ours.len() != stored.len() {
         return false;
     }
-    let mut good = true;
-    let mut i: usize = 0;
-    while i < ours.len() {
-        good = good & same(ours[i], stored[i]);
-        i += 1;
-    }
-    good
+    each_stands(ours, stored)
 }
 
-// Are the first n of our numbers the first m that are stored?
+// Are the first n of our numbers the first m that are stored? The lengths stand beside the rows: too few numbers do not agree.
 pub fn agrees(ours: &[i64], n: usize, stored: &[u32], m: usize) -> bool
     ensures { result ≡ agreeing ours.now n stored.now m }
 {
@@ -74,30 +72,29 @@ pub fn agrees(ours: &[i64], n: usize, stored: &[u32], m: usize) -> bool
     false
 }
 
-fn one_more(counts: [u32; 21], i: usize) -> [u32; 21]
-    ensures { result ≡ one_more counts i }
+// One case more, and one more that agrees if this one does; a count that is full stays as it is.
+fn one_more(c: Count, agrees: bool) -> Count
+    ensures replayed { (result.replayed ≡ min (c.replayed + 1) (2 ^ 32 - 1)) × (c.replayed < 2 ^ 32) }
+    ensures agree { (result.agree ≡ pick agrees (min (c.agree + 1) (2 ^ 32 - 1)) c.agree) × (c.agree < 2 ^ 32) }
 {
-    let mut after = counts;
-    if i < 21 {
-        if counts[i] < 0xffff_ffff {
-            after[i] = counts[i] + 1;
-        }
+    Count {
+        replayed: c.replayed.saturating_add(1),
+        agree: if agrees {
+            c.agree.saturating_add(1)
+        } else {
+            c.agree
+        },
     }
-    after
 }
 
+// A verdict more: its operation was replayed once more, and agrees once more if the verdict says so.
 pub fn counted(t: Tally, v: Verdict) -> Tally
-    ensures { result ≡ counted t v }
+    ensures replayed { replayed result ≡ one_more (replayed t) v.kind }
+    ensures agree { agree result ≡ pick v.agrees (one_more (agree t) v.kind) (agree t) }
 {
-    let old_replayed = t.replayed;
-    let old_agree = t.agree;
-    let replayed = one_more(old_replayed, v.kind);
-    if v.agrees {
-        let agree = one_more(old_agree, v.kind);
-        return Tally { replayed, agree };
+    let mut counts = t.counts;
+    if v.kind < 21 {
+        counts[v.kind] = one_more(counts[v.kind], v.agrees);
     }
-    Tally {
-        replayed,
-        agree: old_agree,
-    }
+    Tally { counts }
 }

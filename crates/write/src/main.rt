@@ -2,8 +2,7 @@
 #![tactic(auto)]
 
 ghost use Rattle.std.specs.Prelude.{◌≡◌, ◌+◌, ◌*◌, ◌/◌, ◌≤◌, length, take};
-ghost use Rattle.program.specs.Input.{IsPrefixLen};
-ghost use Rattle.text.specs.Text.{Put, row};
+ghost use Rattle.text.specs.Text.{put, row};
 ghost use Rattle.write.specs.Print.{bits_text, written_text, request_text, write_text};
 ghost use Rattle.write.specs.Request.{write_request};
 
@@ -11,32 +10,32 @@ use answers::{is_refusal, number};
 use layout_writing::Written;
 use program::{put_refused, read_full, report_written, two_at};
 use std::io;
-use text::{put_byte, put_item, put_line};
+use text::Text;
 use tile_request::{given_layout, multiplier, samples};
 use tile_write::write_tile_info;
 
 // The first n bytes with one blank between.
-fn put_bytes(out: &mut [u8], at: usize, bytes: &[u8], n: usize) -> usize
+#[tactic(auto, using(crate::proofs::Rows::rows), unfolding(text::specs::Text::row))]
+fn put_bytes<const N: usize>(out: &mut Text<N>, bytes: &[u8], n: usize)
     requires { n ≤ length bytes.now }
-    ensures { Put (21 * n) out.old at (row (take n bytes.now)) out.new result }
+    ensures text { out.new ≡ put N out.old (row (take n bytes.now)) }
+    ensures size { length (row (take n bytes.now)) ≤ 21 * n }
 {
-    let mut next = at;
-    let mut i: usize = 0;
-    while i < n {
-        next = put_item(out, next, bytes[i] as u64, i == 0);
-        i += 1;
+    for i in 0..n {
+        out.push_item(u64::from(bytes[i]), i == 0);
     }
-    next
 }
 
 // An accepted call: how many bits, and the bytes that they take.
-fn put_bits(out: &mut [u8], bits: u32, bytes: &[u8]) -> usize
+#[tactic(auto, using(text::proofs::Puts::puts), unfolding(crate::specs::Print::bits_text, text::specs::Text::word))]
+fn put_bits<const N: usize>(out: &mut Text<N>, bits: u32, bytes: &[u8])
     requires { ((bits + 7) / 8 ≤ 177) × ((bits + 7) / 8 ≤ length bytes.now) }
-    ensures { Put 3742 out.old 0 (bits_text bits bytes.now) out.new result }
+    ensures text { out.new ≡ put N out.old (bits_text bits bytes.now) }
+    ensures size { length (bits_text bits bytes.now) ≤ 3742 }
 {
-    let first = put_line(out, 0, b"ok", &[bits as u64]);
-    let end = put_bytes(out, first, bytes, ((bits + 7) / 8) as usize);
-    put_byte(out, end, b'\n')
+    out.push_line(b"ok", &[u64::from(bits)]);
+    put_bytes(out, bytes, ((bits + 7) / 8) as usize);
+    out.push(b'\n');
 }
 
 // The call, with a lent buffer.
@@ -54,44 +53,50 @@ fn write_request(s: &[u8], buffer: &mut [u8]) -> Written
 }
 
 // What is printed of the call.
-fn put_written(out: &mut [u8], s: &[u8], buffer: &mut [u8]) -> usize
+#[tactic(auto, unfolding(crate::specs::Print::written_text))]
+fn put_written<const N: usize>(out: &mut Text<N>, s: &[u8], buffer: &mut [u8])
     requires { length s.now ≡ 279 }
-    ensures { Put 3742 out.old 0 (written_text (write_request s.now buffer.old)) out.new result }
+    ensures text { out.new ≡ put N out.old (written_text (write_request s.now buffer.old)) }
+    ensures size { length (written_text (write_request s.now buffer.old)) ≤ 3742 }
 {
     let r = write_request(s, &mut *buffer);
-    let answer = r.answer;
-    if is_refusal(answer) {
-        return put_refused(out, 0, number(answer));
+    if is_refusal(r.answer) {
+        put_refused(out, number(r.answer));
+    } else {
+        put_bits(out, r.bits, &*buffer);
     }
-    put_bits(out, r.bits, &*buffer)
 }
 
 // A buffer of zeros is lent, of the size that the input says.
-fn put_request(out: &mut [u8], s: &[u8]) -> usize
+#[tactic(auto, using(crate::proofs::Buffers::front), unfolding(crate::specs::Print::request_text))]
+fn put_request<const N: usize>(out: &mut Text<N>, s: &[u8])
     requires { length s.now ≡ 279 }
-    ensures { Put 3742 out.old 0 (request_text s.now) out.new result }
+    ensures text { out.new ≡ put N out.old (request_text s.now) }
+    ensures size { length (request_text s.now) ≤ 3742 }
 {
     let mut buffer = [0u8; 65535];
     let size = two_at(s, 277);
-    put_written(out, s, &mut buffer[..size])
+    put_written(out, s, &mut buffer[..size]);
 }
 
 // From the input's bytes to the output's.
-fn write_text(input: &[u8], out: &mut [u8; 3742]) -> usize
-    ensures prefix_len { IsPrefixLen result out.new }
-    ensures out_after { take result out.new ≡ write_text input.now }
+#[tactic(auto, using(text::proofs::Puts::put_fits), unfolding(crate::specs::Print::write_text))]
+fn write_text(input: &[u8]) -> Text<3742>
+    ensures { result ≡ write_text input.now }
 {
+    let mut out = Text::new();
     if input.len() == 279 {
-        return put_request(out, input);
+        put_request(&mut out, input);
+    } else {
+        put_refused(&mut out, 4);
     }
-    put_refused(out, 0, 4)
+    out
 }
 
 fn main(rt: HostRuntime) -> io::Result<()> {
     let mut input = [0u8; 280];
     let n = read_full(&mut rt.reader(), &mut input)?;
-    let mut out = [0u8; 3742];
-    let k = write_text(&input[..n], &mut out);
-    report_written(&rt, rt.write_all(&out[..k]).is_ok());
+    let out = write_text(&input[..n]);
+    report_written(&rt, rt.write_all(out.as_slice()).is_ok());
     Ok(())
 }

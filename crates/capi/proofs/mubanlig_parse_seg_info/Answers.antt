@@ -5,7 +5,6 @@ use lib.ListN.{length}
 use Rattle.answers.specs.declared.Answer.TheVariants.{Accepted}
 use Rattle.getbits.proofs.Chain.{through, taken, left, both_hold}
 use Rattle.capi.specs.Calls.{lent_seg_info}
-use Rattle.lent.specs.Lent.{place_of}
 use Rattle.lent.proofs.Calls.{row, triple, first_fails, second_fails}
 use Rattle.capi.proofs.mubanlig_parse_seg_info.Goals as goal
 

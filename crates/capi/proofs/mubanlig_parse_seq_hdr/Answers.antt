@@ -56,7 +56,7 @@ returns-then-hdr-lt146 c =
     let b : Buffers = buffers c.args.info.now c.args.col_start_sb.now c.args.row_start_sb.now in
     let fails = first_fails _ (has_room b) (lt-leb 146 (length c.args.hdr.now) c.if-hdr-lt146.true) in
     record {
-      after_after = sym (left _ _ _ fails);
+      outcome = sym (left _ _ _ fails);
       hdr_unchanged = λ _. refl;
       info_unchanged = λ _. refl;
       col_start_sb_unchanged = λ _. refl;
@@ -65,7 +65,7 @@ returns-then-hdr-lt146 c =
       info_after = λ _ h. never_5 h;
       col_start_sb_after = λ _ h. never_5 h;
       row_start_sb_after = λ _ h. never_5 h;
-      fact = λ h. absurd (h refl);
+      header_left = λ h. absurd (h refl);
     }
 
 pub returns-then-not-has_room : goal.returns-then-not-has_room
@@ -74,7 +74,7 @@ returns-then-not-has_room c =
     let lacks = sym c.has_room.ensures ∙ c.if-not-has_room.true in
     let fails = second_fails (leb 146 (length c.args.hdr.now)) _ lacks in
     record {
-      after_after = sym (left _ _ _ fails);
+      outcome = sym (left _ _ _ fails);
       hdr_unchanged = λ _. refl;
       info_unchanged = λ _. refl;
       col_start_sb_unchanged = λ _. refl;
@@ -83,7 +83,7 @@ returns-then-not-has_room c =
       info_after = λ _ h. never_5 h;
       col_start_sb_after = λ _ h. never_5 h;
       row_start_sb_after = λ _ h. never_5 h;
-      fact = λ h. absurd (h refl);
+      header_left = λ h. absurd (h refl);
     }
 
 pub returns : goal.returns
@@ -95,11 +95,11 @@ returns c =
     let z = parse_seq_hdr a.s.now p (is_set a.strict) in
     let has : has_room b ≡ true = sym c.has_room.ensures ∙ c.if-not-has_room.false in
     let long = le-leb 146 (length a.hdr.now) c.if-hdr-lt146.false in
-    let e = (rw (c.place_of-p.ensures, c.is_set.ensures) at c.read_seq_hdr-r.ensures.after_after) ∙ read_into a.s.now a.position.now a.error.now a.strict a.hdr.now b has in
+    let e = (rw (c.place_of-p.ensures, c.is_set.ensures) at c.read_seq_hdr-r.ensures.outcome) ∙ read_into a.s.now a.position.now a.error.now a.strict a.hdr.now b has in
     let number = c.number.ensures ∙ ap (λ (y : Read). number_of y.0.answer) e in
     let w = header_read z c.number.result a.hdr.now b number (header_refused a.s.now p (is_set a.strict)) long has (ap (λ (y : Read). y.1) e) (ap (λ (y : Read). y.2) e) in
     record {
-      after_after = left_by a.s.now a.position.now a.error.now a.strict a.hdr.now b has long e (row x.answer x.next a.error.now c.number.ensures c.put_place.ensures);
+      outcome = left_by a.s.now a.position.now a.error.now a.strict a.hdr.now b has long e (row x.answer x.next a.error.now c.number.ensures c.put_place.ensures);
       hdr_unchanged = λ e. absurd (w.not_5 e);
       info_unchanged = λ e. absurd (w.not_5 e);
       col_start_sb_unchanged = λ e. absurd (w.not_5 e);
@@ -108,5 +108,5 @@ returns c =
       info_after = λ e _. w.bytes e;
       col_start_sb_after = λ e _. w.col_starts e;
       row_start_sb_after = λ e _. w.row_starts e;
-      fact = λ _. left_of _ _ _ _ (rw c.number.ensures (rw c.place_of-p.ensures at (c.read_seq_hdr-r.ensures.fact_2 has)));
+      header_left = λ _. left_of _ _ _ _ (rw c.number.ensures (rw c.place_of-p.ensures at (c.read_seq_hdr-r.ensures.header_tiling has)));
     }

@@ -1,7 +1,7 @@
-use Rattle.std.proofs.Common.{◌/◌, sym, refl, ap, ◌∙◌, arith, rules}
+use Rattle.std.proofs.Common.{ℕ, ◌/◌, sym, refl, ap, ◌∙◌, arith, rules}
 use Rattle.getbits.proofs.Callers.{width_in}
 use Rattle.getbits.specs.Bits.{get_bit}
-use Rattle.getbits.specs.declared.Number.{Number}
+use Rattle.getbits.specs.declared.Read.{Read}
 use Rattle.lent.specs.Lent.{place_of}
 use Rattle.capi_bits.specs.Numbers.{lent_number}
 use Rattle.capi_bits.proofs.Ahead.{bit_on}
@@ -20,4 +20,4 @@ unfolding get_bit
 returns c =
     let a = c.args in
     c.read_bits.ensures
-    ∙ ap (λ (x : Number). lent_number x a.error.now) (sym (width_in a.s.now (place_of a.position.now a.error.now) 1 (omega arith)))
+    ∙ ap (λ (x : Read ℕ). lent_number x a.error.now) (sym (width_in a.s.now (place_of a.position.now a.error.now) 1 (omega arith)))

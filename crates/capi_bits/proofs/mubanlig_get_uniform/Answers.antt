@@ -3,7 +3,7 @@ use Rattle.codes.proofs.Callers.{length_is}
 use Rattle.codes.specs.Codes.{bit_length}
 use Rattle.getbits.proofs.Chain.{both}
 use Rattle.getbits.specs.Bits.{look_at}
-use Rattle.getbits.specs.declared.Number.{Number}
+use Rattle.getbits.specs.declared.Read.{Read}
 use Rattle.getbits.specs.declared.Place.{Place}
 use Rattle.lent.specs.Lent.{place_of}
 use Rattle.capi_bits.specs.Numbers.{lent_number}
@@ -47,4 +47,4 @@ returns-then-at-s c =
 
 pub returns : goal.returns
 returns c =
-    c.hand_back.ensures ∙ ap (λ (x : Number). lent_number x c.args.error.now) (rw c.place_of-2.ensures at c.get_uniform-r.ensures)
+    c.hand_back.ensures ∙ ap (λ (x : Read ℕ). lent_number x c.args.error.now) (rw c.place_of-2.ensures at c.get_uniform-r.ensures)

@@ -13,25 +13,25 @@ use Rattle.lent.proofs.Calls.{row, triple, first_fails, second_fails}
 use Rattle.lent_tiles.proofs.Left.{frames_short, code_kept, frame_kept, frame-into-handed, demand3_left}
 use Rattle.capi_frame.proofs.mubanlig_parse_tile_info_frmhdr.Goals as goal
 
-pub returns-then-not-has_room-clause-after_after : goal.returns-then-not-has_room-clause-after_after
-returns-then-not-has_room-clause-after_after c =
+pub returns-then-not-has_room-clause-outcome : goal.returns-then-not-has_room-clause-outcome
+returns-then-not-has_room-clause-outcome c =
     let a = c.args in
     let own = buffers a.info.now a.col_start_sb.now a.row_start_sb.now in
     let theirs = buffers a.seq_info.now a.seq_col_start_sb.now a.seq_row_start_sb.now in
     frames_short _ a.s.now a.position.now a.error.now a.sb128.now own theirs (is_known a.frame_type a.present)
     (first_fails (has_room own) (has_room theirs) (sym c.has_room.ensures ∙ c.if-not-has_room.true))
 
-pub returns-then-not-has_room-2-clause-after_after : goal.returns-then-not-has_room-2-clause-after_after
-returns-then-not-has_room-2-clause-after_after c =
+pub returns-then-not-has_room-2-clause-outcome : goal.returns-then-not-has_room-2-clause-outcome
+returns-then-not-has_room-2-clause-outcome c =
     let a = c.args in
     let own = buffers a.info.now a.col_start_sb.now a.row_start_sb.now in
     let theirs = buffers a.seq_info.now a.seq_col_start_sb.now a.seq_row_start_sb.now in
     frames_short _ a.s.now a.position.now a.error.now a.sb128.now own theirs (is_known a.frame_type a.present)
     (second_fails (has_room own) (has_room theirs) (sym c.has_room-2.ensures ∙ c.if-not-has_room-2.true))
 
-pub returns-then-not-is_known-clause-after_after : goal.returns-then-not-is_known-clause-after_after
+pub returns-then-not-is_known-clause-outcome : goal.returns-then-not-is_known-clause-outcome
 unfolding lent_frames
-returns-then-not-is_known-clause-after_after c =
+returns-then-not-is_known-clause-outcome c =
     let a = c.args in
     let own = buffers a.info.now a.col_start_sb.now a.row_start_sb.now in
     let theirs = buffers a.seq_info.now a.seq_col_start_sb.now a.seq_row_start_sb.now in
@@ -52,19 +52,19 @@ returns c =
     let place = place_of a.position.now a.error.now in
     let roomy : has_room own && has_room theirs ≡ true = both_hold (sym c.has_room.ensures ∙ c.if-not-has_room.false) (sym c.has_room-2.ensures ∙ c.if-not-has_room-2.false) in
     let known = sym c.is_known.ensures ∙ c.if-not-is_known.false in
-    let sized = rw (to_z-of_z f.width, to_z-of_z f.height, to_z-of_z f.max_width, to_z-of_z f.max_height) at c.frame_layout_into-r.ensures.after_after in
+    let sized = rw (to_z-of_z f.width, to_z-of_z f.height, to_z-of_z f.max_width, to_z-of_z f.max_height) at c.frame_layout_into-r.ensures.outcome in
     let into = rw (c.place_of-p.ensures, c.frame_type_of.ensures, c.present_of.ensures) at sized in
-    let promised_sized = rw (to_z-of_z f.width, to_z-of_z f.height, to_z-of_z f.max_width, to_z-of_z f.max_height) at (c.frame_layout_into-r.ensures.fact_2 roomy) in
+    let promised_sized = rw (to_z-of_z f.width, to_z-of_z f.height, to_z-of_z f.max_width, to_z-of_z f.max_height) at (c.frame_layout_into-r.ensures.frame_layout roomy) in
     let promised = rw (c.place_of-p.ensures, c.frame_type_of.ensures, c.present_of.ensures) at promised_sized in
     let z = parse_tile_info_frmhdr a.s.now place h q in
     let back = frame-into-handed a.s.now place h q own theirs roomy into a.error.now c.number.ensures c.put_place.ensures in
     let kept = frame_kept z a.error.now a.sb128.now own back in
     record {
-      after_after = back ∙ sym (taken _ _ _ roomy ∙ taken _ _ _ known ∙ through _ _ refl);
+      outcome = back ∙ sym (taken _ _ _ roomy ∙ taken _ _ _ known ∙ through _ _ refl);
       sb128_unchanged = code_kept z a.error.now a.sb128.now own back;
       info_unchanged = λ n. ap (λ (b : Buffers). b.bytes) (kept n);
       col_start_sb_unchanged = λ n. ap (λ (b : Buffers). b.col_starts) (kept n);
       row_start_sb_unchanged = λ n. ap (λ (b : Buffers). b.row_starts) (kept n);
-      fact = λ _ _ d e. demand3_left _ _ _ c.number.ensures (λ _. refl) (promised.fresh d e);
+      frame_layout = λ _ _ d e. demand3_left _ _ _ c.number.ensures (λ _. refl) (promised.fresh d e);
       cleared = λ n. promised.over.cleared (accepted_by_0 c.frame_layout_into-r.result.answer (sym c.number.ensures ∙ n));
     }

@@ -20,9 +20,9 @@ returns-then-fgd-lt186 c =
     let short = lt-leb 186 (length a.fgd.now) c.if-fgd-lt186.true in
     record {
       fgd_after = sym (left _ _ _ short);
-      fgd_unchanged = λ _. refl;
-      fgd_unchanged_2 = λ _. refl;
-      fgd_after_2 = λ h. absurd (omega arith);
+      fgd_unchanged_at_4 = λ _. refl;
+      fgd_unchanged_at_5 = λ _. refl;
+      zeros_at_7 = λ h. absurd (omega arith);
       lists_left = λ h. absurd (omega arith);
     }
 
@@ -33,9 +33,9 @@ returns-then-layout-gt3 c =
     let room = le-leb 186 (length a.fgd.now) c.if-fgd-lt186.false in
     record {
       fgd_after = pair (row WrongArguments (settled a.s.now (place_of a.position.now a.error.now)) a.error.now refl c.settle_place.ensures) refl ∙ sym (taken _ _ _ room ∙ left _ _ _ (lt-leb a.layout 3 c.if-layout-gt3.true));
-      fgd_unchanged = λ _. refl;
-      fgd_unchanged_2 = λ _. refl;
-      fgd_after_2 = λ h. absurd (omega arith);
+      fgd_unchanged_at_4 = λ _. refl;
+      fgd_unchanged_at_5 = λ _. refl;
+      zeros_at_7 = λ h. absurd (omega arith);
       lists_left = λ h. absurd (omega arith);
     }
 
@@ -52,8 +52,8 @@ returns c =
     record {
       fgd_after = pair (row x.answer x.next a.error.now c.number.ensures c.put_place.ensures) put.out_after
           ∙ sym (taken _ _ _ (le-leb 186 (length a.fgd.now) room) ∙ taken _ _ _ (le-leb a.layout 3 c.if-layout-gt3.false) ∙ through _ _ read);
-      fgd_unchanged = λ e. absurd (never x n c.number.ensures outcome 4 (λ h. omega arith) (λ h. omega arith) e);
-      fgd_unchanged_2 = λ e. absurd (never x n c.number.ensures outcome 5 (λ h. omega arith) (λ h. omega arith) e);
-      fgd_after_2 = λ e. zeros_left x n c.number.ensures outcome a.fgd.now _ room put.out_after e;
+      fgd_unchanged_at_4 = λ e. absurd (never x n c.number.ensures outcome 4 (λ h. omega arith) (λ h. omega arith) e);
+      fgd_unchanged_at_5 = λ e. absurd (never x n c.number.ensures outcome 5 (λ h. omega arith) (λ h. omega arith) e);
+      zeros_at_7 = λ e. zeros_left x n c.number.ensures outcome a.fgd.now _ room put.out_after e;
       lists_left = λ _. lists_left x _ (put.has_lists room) c.parse_film_grain_data-r.ensures.grain_lists;
     }

@@ -49,14 +49,14 @@ returns-then-not-has_room c =
     let fails = first_fails (has_room own) (has_room theirs) (sym c.has_room.ensures ∙ c.if-not-has_room.true) in
     let e = frames_short _ a.s.now a.position.now a.error.now a.sb128.now own theirs (is_known a.frame_type a.present) fails in
     record {
-      after_after = e;
+      outcome = e;
       sb128_unchanged = λ _. refl;
       info_unchanged = λ _. refl;
       col_start_sb_unchanged = λ _. refl;
       row_start_sb_unchanged = λ _. refl;
-      fact = λ h _. contrary h fails;
-      fact_2 = λ h. contrary refl (accepted_by_0 ShortBuffer h);
-      fact_3 = λ w. e ∙ on_wall a.s.now a.position.now a.error.now own theirs (is_known a.frame_type a.present) h q (limit_given a.max_cols a.max_rows) w;
+      limited = λ h _. contrary h fails;
+      fresh_accepted = λ h. contrary refl (accepted_by_0 ShortBuffer h);
+      on_wall = λ w. e ∙ on_wall a.s.now a.position.now a.error.now own theirs (is_known a.frame_type a.present) h q (limit_given a.max_cols a.max_rows) w;
       cleared = λ h. contrary refl (accepted_by_0 ShortBuffer h);
     }
 
@@ -70,14 +70,14 @@ returns-then-not-has_room-2 c =
     let fails = second_fails (has_room own) (has_room theirs) (sym c.has_room-2.ensures ∙ c.if-not-has_room-2.true) in
     let e = frames_short _ a.s.now a.position.now a.error.now a.sb128.now own theirs (is_known a.frame_type a.present) fails in
     record {
-      after_after = e;
+      outcome = e;
       sb128_unchanged = λ _. refl;
       info_unchanged = λ _. refl;
       col_start_sb_unchanged = λ _. refl;
       row_start_sb_unchanged = λ _. refl;
-      fact = λ h _. contrary h fails;
-      fact_2 = λ h. contrary refl (accepted_by_0 ShortBuffer h);
-      fact_3 = λ w. e ∙ on_wall a.s.now a.position.now a.error.now own theirs (is_known a.frame_type a.present) h q (limit_given a.max_cols a.max_rows) w;
+      limited = λ h _. contrary h fails;
+      fresh_accepted = λ h. contrary refl (accepted_by_0 ShortBuffer h);
+      on_wall = λ w. e ∙ on_wall a.s.now a.position.now a.error.now own theirs (is_known a.frame_type a.present) h q (limit_given a.max_cols a.max_rows) w;
       cleared = λ h. contrary refl (accepted_by_0 ShortBuffer h);
     }
 
@@ -94,14 +94,14 @@ returns-then-not-is_known c =
     let e = triple (row WrongArguments (settled a.s.now (place_of a.position.now a.error.now)) a.error.now refl c.settle_place.ensures) refl refl
     ∙ sym (taken _ _ _ roomy ∙ left _ _ _ unknown) in
     record {
-      after_after = e;
+      outcome = e;
       sb128_unchanged = λ _. refl;
       info_unchanged = λ _. refl;
       col_start_sb_unchanged = λ _. refl;
       row_start_sb_unchanged = λ _. refl;
-      fact = λ _ h. contrary h unknown;
-      fact_2 = λ h. contrary refl (accepted_by_0 WrongArguments h);
-      fact_3 = λ w. e ∙ on_wall a.s.now a.position.now a.error.now own theirs (is_known a.frame_type a.present) h q (limit_given a.max_cols a.max_rows) w;
+      limited = λ _ h. contrary h unknown;
+      fresh_accepted = λ h. contrary refl (accepted_by_0 WrongArguments h);
+      on_wall = λ w. e ∙ on_wall a.s.now a.position.now a.error.now own theirs (is_known a.frame_type a.present) h q (limit_given a.max_cols a.max_rows) w;
       cleared = λ h. contrary refl (accepted_by_0 WrongArguments h);
     }
 
@@ -123,19 +123,19 @@ returns c =
     let read : x ≡ parse_tile_info_frmhdr_within a.s.now place h q limit =
     rw (c.place_of-p.ensures, c.seq_given-seq.ensures, c.frame_given-hdr.ensures, to_z-of_z f.width, to_z-of_z f.height, to_z-of_z f.max_width, to_z-of_z f.max_height) at c.frame_layout_within-r.ensures.value in
     let promise = promised a.s.now a.position.now a.error.now h q limit x read in
-    let back = c.hand_back_frame.ensures.after_after in
-    let info = c.hand_back_frame.ensures.fact own_room in
+    let back = c.hand_back_frame.ensures.outcome in
+    let info = c.hand_back_frame.ensures.layout_put own_room in
     let number = frame_number x a.error.now a.sb128.now own back in
     let kept = frame_kept x a.error.now a.sb128.now own back in
     let e = back ∙ sym (meaning a.s.now a.position.now a.error.now own theirs (is_known a.frame_type a.present) h q limit x roomy known read) in
     record {
-      after_after = e;
+      outcome = e;
       sb128_unchanged = code_kept x a.error.now a.sb128.now own back;
       info_unchanged = λ n. ap (λ (b : Buffers). b.bytes) (kept n);
       col_start_sb_unchanged = λ n. ap (λ (b : Buffers). b.col_starts) (kept n);
       row_start_sb_unchanged = λ n. ap (λ (b : Buffers). b.row_starts) (kept n);
-      fact = λ _ _. limited_left (frame_tiles x) _ _ number info promise.limited;
-      fact_2 = λ n. let k = accepted_by_0 x.answer (sym number ∙ n) in subst (FreshAccepted a.s.now place h q) (sym (info k)) (promise.accepted k);
-      fact_3 = λ w. e ∙ on_wall a.s.now a.position.now a.error.now own theirs (is_known a.frame_type a.present) h q limit w;
+      limited = λ _ _. limited_left (frame_tiles x) _ _ number info promise.limited;
+      fresh_accepted = λ n. let k = accepted_by_0 x.answer (sym number ∙ n) in subst (FreshAccepted a.s.now place h q) (sym (info k)) (promise.accepted k);
+      on_wall = λ w. e ∙ on_wall a.s.now a.position.now a.error.now own theirs (is_known a.frame_type a.present) h q limit w;
       cleared = cleared_left (frame_tiles x) _ _ number info promise.over;
     }

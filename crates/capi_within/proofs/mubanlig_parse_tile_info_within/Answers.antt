@@ -44,13 +44,13 @@ returns-then-not-has_room c =
     let lacks = sym c.has_room.ensures ∙ c.if-not-has_room.true in
     let e = tiles_short _ a.position.now a.error.now given lacks in
     record {
-      after_after = e;
+      outcome = e;
       info_unchanged = λ _. refl;
       col_start_sb_unchanged = λ _. refl;
       row_start_sb_unchanged = λ _. refl;
-      fact = λ h. contrary h lacks;
-      fact_2 = λ h. contrary refl (accepted_by_0 ShortBuffer h);
-      fact_3 = λ w. e ∙ on_wall a.s.now a.position.now a.error.now given asked (limit_given a.max_cols a.max_rows) w;
+      limited = λ h. contrary h lacks;
+      accepted_layout = λ h. contrary refl (accepted_by_0 ShortBuffer h);
+      on_wall = λ w. e ∙ on_wall a.s.now a.position.now a.error.now given asked (limit_given a.max_cols a.max_rows) w;
       cleared = λ h. contrary refl (accepted_by_0 ShortBuffer h);
     }
 
@@ -68,18 +68,18 @@ returns c =
     let read : x ≡ parse_tile_info_within a.s.now place (layout_in given) asked limit =
     rw (to_z-of_z f.sbmul, to_z-of_z f.w, to_z-of_z f.h, c.place_of-p.ensures, c.tile_info_of-thdr.ensures) at c.parse_tile_info_within-r.ensures.value in
     let promise = promised a.s.now a.position.now a.error.now given asked limit x read in
-    let back = c.hand_back_tiles.ensures.after_after in
-    let info = c.hand_back_tiles.ensures.fact has in
+    let back = c.hand_back_tiles.ensures.outcome in
+    let info = c.hand_back_tiles.ensures.layout_put has in
     let number = tiles_number x a.error.now given back in
     let kept = tiles_kept x a.error.now given back in
     let e = back ∙ sym (meaning a.s.now a.position.now a.error.now given asked limit x has read) in
     record {
-      after_after = e;
+      outcome = e;
       info_unchanged = λ n. ap (λ (b : Buffers). b.bytes) (kept n);
       col_start_sb_unchanged = λ n. ap (λ (b : Buffers). b.col_starts) (kept n);
       row_start_sb_unchanged = λ n. ap (λ (b : Buffers). b.row_starts) (kept n);
-      fact = λ _. limited_left x _ _ number info promise.limited;
-      fact_2 = λ n. let h = accepted_by_0 x.answer (sym number ∙ n) in subst (AcceptedLayout a.s.now place asked) (sym (info h)) (promise.accepted h);
-      fact_3 = λ w. e ∙ on_wall a.s.now a.position.now a.error.now given asked limit w;
+      limited = λ _. limited_left x _ _ number info promise.limited;
+      accepted_layout = λ n. let h = accepted_by_0 x.answer (sym number ∙ n) in subst (AcceptedLayout a.s.now place asked) (sym (info h)) (promise.accepted h);
+      on_wall = λ w. e ∙ on_wall a.s.now a.position.now a.error.now given asked limit w;
       cleared = cleared_left x _ _ number info promise.over;
     }

@@ -13,15 +13,15 @@ use Rattle.codes.proofs.Callers.{subexp_u_lt}
 use Rattle.codes.proofs.Args.{range_known}
 use Rattle.codes.specs.Codes.{get_bits_subexp_u, subexp_range, get_bits_subexp}
 use Rattle.getbits.proofs.Chain.{through, taken, left}
-use Rattle.getbits.specs.declared.Number.{Number}
+use Rattle.getbits.specs.declared.Read.{Read}
 use Rattle.getbits.specs.declared.Place.{Place}
 use Rattle.getbits.proofs.Widths.{back}
 use Rattle.codes.proofs.get_bits_subexp.Goals as goal
 
 -- a number that is read below 2 * n - 1
-answer_lt : (s : List ℕ) (p : Place) (x : ℕ) (n : ℕ) (r : Number) → r ≡ get_bits_subexp_u s p x (2 * n - 1) (pos 3) → 1 ≤ n → n ≤ 2 ^ 30 → r.value < 2 ^ 31
+answer_lt : (s : List ℕ) (p : Place) (x : ℕ) (n : ℕ) (r : Read ℕ) → r ≡ get_bits_subexp_u s p x (2 * n - 1) (pos 3) → 1 ≤ n → n ≤ 2 ^ 30 → r.value < 2 ^ 31
 answer_lt s p x n r e some low =
-    omega (arith, subexp_u_lt s p x (2 * n - 1) (pos 3) (omega arith), ap (λ (z : Number). z.value) e)
+    omega (arith, subexp_u_lt s p x (2 * n - 1) (pos 3) (omega arith), ap (λ (z : Read ℕ). z.value) e)
 
 pub overflow_cast-x : goal.overflow_cast-x
 overflow_cast-x c =
@@ -37,7 +37,7 @@ overflow_add-n c =
     let tested : c.subexp_range.result ≡ subexp_range c.args.n c.shifted-x.result = rw (same) at c.subexp_range.ensures in
     let right : subexp_range c.args.n c.shifted-x.result ≡ true = sym (tested) ∙ c.if-subexp_range.true in
     let known : (let n = c.args.n in let x = c.shifted-x.result in (1 ≤ n) × (n ≤ 2 ^ 30) × T (non_neg x) × (nat_abs x < 2 ^ 31)) = range_known c.args.n c.shifted-x.result (right) in
-    omega (arith, (known).1, c.less_one-off.ensures)
+    omega (arith, (known).1, c.saturating_sub-off.ensures)
 
 pub difference-requires : goal.difference-requires
 difference-requires c =
@@ -46,26 +46,26 @@ difference-requires c =
     let right : subexp_range c.args.n c.shifted-x.result ≡ true = sym (tested) ∙ c.if-subexp_range.true in
     let known : (let n = c.args.n in let x = c.shifted-x.result in (1 ≤ n) × (n ≤ 2 ^ 30) × T (non_neg x) × (nat_abs x < 2 ^ 31)) = range_known c.args.n c.shifted-x.result (right) in
     let called : (let a = c.args in c.get_bits_subexp_u-r.result ≡ get_bits_subexp_u a.s.now a.p (nat_abs c.shifted-x.result) (2 * a.n - 1) (pos 3)) = let a = c.args in
-    let e : a.n + c.less_one-off.result ≡ 2 * a.n - 1 = omega (arith, (known).0, c.less_one-off.ensures) in
+    let e : a.n + c.saturating_sub-off.result ≡ 2 * a.n - 1 = omega (arith, (known).0, c.saturating_sub-off.ensures) in
     c.get_bits_subexp_u-r.ensures
-    ∙ ap (λ (z : ℤ). get_bits_subexp_u a.s.now a.p (nat_abs z) (a.n + c.less_one-off.result) (pos 3)) (same)
+    ∙ ap (λ (z : ℤ). get_bits_subexp_u a.s.now a.p (nat_abs z) (a.n + c.saturating_sub-off.result) (pos 3)) (same)
     ∙ ap (λ (x : ℕ). get_bits_subexp_u a.s.now a.p (nat_abs c.shifted-x.result) x (pos 3)) e in
-    (answer_lt _ _ _ _ _ called known.0 known.1, omega (arith, (known).1, c.less_one-off.ensures))
+    (answer_lt _ _ _ _ _ called known.0 known.1, omega (arith, (known).1, c.saturating_sub-off.ensures))
 
 pub returns-then-subexp_range : goal.returns-then-subexp_range
 unfolding get_bits_subexp
 returns-then-subexp_range c =
-    let sum : (let a = c.args in c.shifted-x.result ≡ a.ref_val +ℤ pos (a.n - 1)) = rw (to_z-of_z c.ranges.ref_val) at c.shifted-x.ensures ∙ ap (λ (x : ℕ). c.args.ref_val +ℤ pos x) c.less_one-off.ensures in
+    let sum : (let a = c.args in c.shifted-x.result ≡ a.ref_val +ℤ pos (a.n - 1)) = rw (to_z-of_z c.ranges.ref_val) at c.shifted-x.ensures ∙ ap (λ (x : ℕ). c.args.ref_val +ℤ pos x) c.saturating_sub-off.ensures in
     let same : to_z w64 (of_z w64 c.shifted-x.result) ≡ c.shifted-x.result = to_z-of_z {w = w64} (record { sfits = c.shifted-x.type_inv }) in
     let tested : c.subexp_range.result ≡ subexp_range c.args.n c.shifted-x.result = rw (same) at c.subexp_range.ensures in
     let right : subexp_range c.args.n c.shifted-x.result ≡ true = sym (tested) ∙ c.if-subexp_range.true in
     let known : (let n = c.args.n in let x = c.shifted-x.result in (1 ≤ n) × (n ≤ 2 ^ 30) × T (non_neg x) × (nat_abs x < 2 ^ 31)) = range_known c.args.n c.shifted-x.result (right) in
     let called : (let a = c.args in c.get_bits_subexp_u-r.result ≡ get_bits_subexp_u a.s.now a.p (nat_abs c.shifted-x.result) (2 * a.n - 1) (pos 3)) = let a = c.args in
-    let e : a.n + c.less_one-off.result ≡ 2 * a.n - 1 = omega (arith, (known).0, c.less_one-off.ensures) in
+    let e : a.n + c.saturating_sub-off.result ≡ 2 * a.n - 1 = omega (arith, (known).0, c.saturating_sub-off.ensures) in
     c.get_bits_subexp_u-r.ensures
-    ∙ ap (λ (z : ℤ). get_bits_subexp_u a.s.now a.p (nat_abs z) (a.n + c.less_one-off.result) (pos 3)) (same)
+    ∙ ap (λ (z : ℤ). get_bits_subexp_u a.s.now a.p (nat_abs z) (a.n + c.saturating_sub-off.result) (pos 3)) (same)
     ∙ ap (λ (x : ℕ). get_bits_subexp_u a.s.now a.p (nat_abs c.shifted-x.result) x (pos 3)) e in
-    let off = c.less_one-off in
+    let off = c.saturating_sub-off in
     sym (through _ _ (sum)
     ∙ taken _ _ _ (right)
     ∙ through _ _ (called)
@@ -75,9 +75,9 @@ returns-then-subexp_range c =
 pub returns : goal.returns
 unfolding get_bits_subexp
 returns c =
-    let sum : (let a = c.args in c.shifted-x.result ≡ a.ref_val +ℤ pos (a.n - 1)) = rw (to_z-of_z c.ranges.ref_val) at c.shifted-x.ensures ∙ ap (λ (x : ℕ). c.args.ref_val +ℤ pos x) c.less_one-off.ensures in
+    let sum : (let a = c.args in c.shifted-x.result ≡ a.ref_val +ℤ pos (a.n - 1)) = rw (to_z-of_z c.ranges.ref_val) at c.shifted-x.ensures ∙ ap (λ (x : ℕ). c.args.ref_val +ℤ pos x) c.saturating_sub-off.ensures in
     let same : to_z w64 (of_z w64 c.shifted-x.result) ≡ c.shifted-x.result = to_z-of_z {w = w64} (record { sfits = c.shifted-x.type_inv }) in
     let tested : c.subexp_range.result ≡ subexp_range c.args.n c.shifted-x.result = rw (same) at c.subexp_range.ensures in
     sym (through _ _ (sum)
     ∙ left _ _ _ (sym (tested) ∙ c.if-subexp_range.false)
-    ∙ ap (λ (x : Number). record { value = pos 0; next = x.next }) (sym c.refuse-r.ensures))
+    ∙ ap (λ (x : Read ℕ). record { value = pos 0; next = x.next }) (sym c.refuse-r.ensures))

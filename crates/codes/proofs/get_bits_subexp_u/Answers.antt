@@ -13,7 +13,7 @@ use Rattle.codes.proofs.Recenter.{recenter_lt}
 use Rattle.codes.proofs.Args.{args_known}
 use Rattle.codes.specs.Codes.{inv_recenter, subexp_args, get_bits_subexp_u}
 use Rattle.getbits.proofs.Chain.{through, taken, left}
-use Rattle.getbits.specs.declared.Number.{Number}
+use Rattle.getbits.specs.declared.Read.{Read}
 use Rattle.getbits.proofs.Widths.{nat_abs_fits}
 use Rattle.codes.proofs.Callers.{subexp_lt}
 use Rattle.getbits.specs.Chain.{pick}
@@ -45,7 +45,7 @@ inv_recenter-requires c =
     let tested : (let a = c.args in c.subexp_args.result ≡ subexp_args a.ref_val a.n a.k) = rw (to_z-of_z c.ranges.k) at c.subexp_args.ensures in
     let right : (let a = c.args in subexp_args a.ref_val a.n a.k ≡ true) = sym (tested) ∙ c.if-subexp_args.true in
     let known : (let a = c.args in T (non_neg a.k) × (nat_abs a.k < 32) × (a.ref_val < a.n) × (a.n < 2 ^ 31)) = let a = c.args in args_known a.ref_val a.n a.k (right) in
-    let below : c.subexp-r.result.value < c.args.n = omega (arith, subexp_lt 33 c.args.s.now c.args.p c.args.n (nat_abs (to_z w32 (of_z w32 c.args.k))) 0 0 (omega (arith, (known).2)), ap (λ (x : Number). x.value) c.subexp-r.ensures) in
+    let below : c.subexp-r.result.value < c.args.n = omega (arith, subexp_lt 33 c.args.s.now c.args.p c.args.n (nat_abs (to_z w32 (of_z w32 c.args.k))) 0 0 (omega (arith, (known).2)), ap (λ (x : Read ℕ). x.value) c.subexp-r.ensures) in
     omega (arith, (known).2, (known).3, below)
 
 pub returns-then-ref_val-n : goal.returns-then-ref_val-n
@@ -63,7 +63,7 @@ overflow_sub-result c =
     let tested : (let a = c.args in c.subexp_args.result ≡ subexp_args a.ref_val a.n a.k) = rw (to_z-of_z c.ranges.k) at c.subexp_args.ensures in
     let right : (let a = c.args in subexp_args a.ref_val a.n a.k ≡ true) = sym (tested) ∙ c.if-subexp_args.true in
     let known : (let a = c.args in T (non_neg a.k) × (nat_abs a.k < 32) × (a.ref_val < a.n) × (a.n < 2 ^ 31)) = let a = c.args in args_known a.ref_val a.n a.k (right) in
-    let below : c.subexp-r.result.value < c.args.n = omega (arith, subexp_lt 33 c.args.s.now c.args.p c.args.n (nat_abs (to_z w32 (of_z w32 c.args.k))) 0 0 (omega (arith, (known).2)), ap (λ (x : Number). x.value) c.subexp-r.ensures) in
+    let below : c.subexp-r.result.value < c.args.n = omega (arith, subexp_lt 33 c.args.s.now c.args.p c.args.n (nat_abs (to_z w32 (of_z w32 c.args.k))) 0 0 (omega (arith, (known).2)), ap (λ (x : Read ℕ). x.value) c.subexp-r.ensures) in
     omega (arith, below)
 
 pub overflow_sub-n : goal.overflow_sub-n
@@ -71,7 +71,7 @@ overflow_sub-n c =
     let tested : (let a = c.args in c.subexp_args.result ≡ subexp_args a.ref_val a.n a.k) = rw (to_z-of_z c.ranges.k) at c.subexp_args.ensures in
     let right : (let a = c.args in subexp_args a.ref_val a.n a.k ≡ true) = sym (tested) ∙ c.if-subexp_args.true in
     let known : (let a = c.args in T (non_neg a.k) × (nat_abs a.k < 32) × (a.ref_val < a.n) × (a.n < 2 ^ 31)) = let a = c.args in args_known a.ref_val a.n a.k (right) in
-    let below : c.subexp-r.result.value < c.args.n = omega (arith, subexp_lt 33 c.args.s.now c.args.p c.args.n (nat_abs (to_z w32 (of_z w32 c.args.k))) 0 0 (omega (arith, (known).2)), ap (λ (x : Number). x.value) c.subexp-r.ensures) in
+    let below : c.subexp-r.result.value < c.args.n = omega (arith, subexp_lt 33 c.args.s.now c.args.p c.args.n (nat_abs (to_z w32 (of_z w32 c.args.k))) 0 0 (omega (arith, (known).2)), ap (λ (x : Read ℕ). x.value) c.subexp-r.ensures) in
     omega (arith, below)
 
 pub overflow_sub-n-then-subexp_args : goal.overflow_sub-n-then-subexp_args
@@ -86,7 +86,7 @@ inv_recenter-requires-then-subexp_args c =
     let tested : (let a = c.args in c.subexp_args.result ≡ subexp_args a.ref_val a.n a.k) = rw (to_z-of_z c.ranges.k) at c.subexp_args.ensures in
     let right : (let a = c.args in subexp_args a.ref_val a.n a.k ≡ true) = sym (tested) ∙ c.if-subexp_args.true in
     let known : (let a = c.args in T (non_neg a.k) × (nat_abs a.k < 32) × (a.ref_val < a.n) × (a.n < 2 ^ 31)) = let a = c.args in args_known a.ref_val a.n a.k (right) in
-    let below : c.subexp-r.result.value < c.args.n = omega (arith, subexp_lt 33 c.args.s.now c.args.p c.args.n (nat_abs (to_z w32 (of_z w32 c.args.k))) 0 0 (omega (arith, (known).2)), ap (λ (x : Number). x.value) c.subexp-r.ensures) in
+    let below : c.subexp-r.result.value < c.args.n = omega (arith, subexp_lt 33 c.args.s.now c.args.p c.args.n (nat_abs (to_z w32 (of_z w32 c.args.k))) 0 0 (omega (arith, (known).2)), ap (λ (x : Read ℕ). x.value) c.subexp-r.ensures) in
     omega (arith, (known).2, (known).3, below)
 
 pub overflow_sub-result-then-subexp_args : goal.overflow_sub-result-then-subexp_args
@@ -94,7 +94,7 @@ overflow_sub-result-then-subexp_args c =
     let tested : (let a = c.args in c.subexp_args.result ≡ subexp_args a.ref_val a.n a.k) = rw (to_z-of_z c.ranges.k) at c.subexp_args.ensures in
     let right : (let a = c.args in subexp_args a.ref_val a.n a.k ≡ true) = sym (tested) ∙ c.if-subexp_args.true in
     let known : (let a = c.args in T (non_neg a.k) × (nat_abs a.k < 32) × (a.ref_val < a.n) × (a.n < 2 ^ 31)) = let a = c.args in args_known a.ref_val a.n a.k (right) in
-    let below : c.subexp-r.result.value < c.args.n = omega (arith, subexp_lt 33 c.args.s.now c.args.p c.args.n (nat_abs (to_z w32 (of_z w32 c.args.k))) 0 0 (omega (arith, (known).2)), ap (λ (x : Number). x.value) c.subexp-r.ensures) in
+    let below : c.subexp-r.result.value < c.args.n = omega (arith, subexp_lt 33 c.args.s.now c.args.p c.args.n (nat_abs (to_z w32 (of_z w32 c.args.k))) 0 0 (omega (arith, (known).2)), ap (λ (x : Read ℕ). x.value) c.subexp-r.ensures) in
     let a = c.args in
     let h = recenter_lt (a.n - 1 - a.ref_val) c.subexp-r.result.value a.n (omega (arith, (known).2, c.if-ref_val-n.false)) (omega (arith, (known).2)) (below) in
     omega (arith, h, c.inv_recenter-then-subexp_args.ensures)

@@ -9,7 +9,7 @@ use Rattle.codes.proofs.Runs.{run_le}
 use Rattle.codes.specs.Codes.{plus, get_golomb}
 use Rattle.getbits.proofs.Callers.{as_read, read_lt, power_below}
 use Rattle.getbits.proofs.Chain.{through, taken, left}
-use Rattle.getbits.specs.declared.Number.{Number}
+use Rattle.getbits.specs.declared.Read.{Read}
 use Rattle.getbits.specs.Bits.{read_bits}
 use Rattle.codes.proofs.get_golomb.Goals as goal
 use Rattle.codes.proofs.get_golomb.Goals.{After-run-c, After-power}
@@ -28,7 +28,7 @@ golomb_lt c k h =
 ones : (r : After-run-c) → (let a = r.args in r.run-c.result.value ≤ 32 - a.k)
 ones r =
     let a = r.args in
-    omega (arith, run_le 1 (32 - a.k) a.s.now a.p, ap (λ (x : Number). x.value) r.run-c.ensures)
+    omega (arith, run_le 1 (32 - a.k) a.s.now a.p, ap (λ (x : Read ℕ). x.value) r.run-c.ensures)
 
 module _ (k : After-power) where
   abbrev width : ℕ
@@ -41,11 +41,11 @@ module _ (k : After-power) where
   twos = power_below (omega (arith, k)) k.power.ensures.0
 
   rest_lt : k.read_bits-r.result.value < k.power.result
-  rest_lt = omega (arith, read_lt k.args.s.now k.run-c.result.next width, ap (λ (x : Number). x.value) rest, twos)
+  rest_lt = omega (arith, read_lt k.args.s.now k.run-c.result.next width, ap (λ (x : Read ℕ). x.value) rest, twos)
 
   bounded : k.run-c.result.value * k.power.result + k.power.result ≤ 2 ^ 32
   bounded =
-      omega (arith, golomb_lt k.run-c.result.value width (omega (arith, run_le 1 (32 - width) k.args.s.now k.args.p, ap (λ (x : Number). x.value) k.run-c.ensures, k.if-bits-k-eq32.false)), twos, ap (λ (x : ℕ). k.run-c.result.value * x) twos)
+      omega (arith, golomb_lt k.run-c.result.value width (omega (arith, run_le 1 (32 - width) k.args.s.now k.args.p, ap (λ (x : Read ℕ). x.value) k.run-c.ensures, k.if-bits-k-eq32.false)), twos, ap (λ (x : ℕ). k.run-c.result.value * x) twos)
 
 pub returns-then-k-ge32 : goal.returns-then-k-ge32
 unfolding get_golomb

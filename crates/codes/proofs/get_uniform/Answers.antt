@@ -1,3 +1,4 @@
+use Rattle.std.proofs.Common.{ℕ}
 use mathlib.Core.Path.{◌≡◌, refl, ◌∙◌, ap}
 use Prim.Native.Nat.{◌+◌, ◌*◌, ◌≤◌, ◌<◌}
 use native.Mathlib.Omega.{arith}
@@ -6,7 +7,7 @@ use lib.Dec.{leb, ltb}
 use lib.ListN.{length}
 use Rattle.codes.specs.Codes.{get_uniform}
 use Rattle.getbits.specs.Bits.{bits_at, bit_count, position, read_bits}
-use Rattle.getbits.specs.declared.Number.{Number}
+use Rattle.getbits.specs.declared.Read.{Read}
 use Rattle.getbits.proofs.Chain.{both}
 use Rattle.getbits.proofs.Places.{settled_in, read_at}
 use Rattle.codes.proofs.Callers.{eight_there}
@@ -38,5 +39,5 @@ returns-then-eight_left c =
     let h = there (goal.at.returns-then-eight_left c).After-uniform_of-u in
     let n = c.uniform_of-u.result.bits in
     let e = read_at s p p n {v = bits_at s (8 * p.byte + p.used) n} (settled_in s p (omega (arith, h.1)) h.0) (omega (arith, h.0, h.1, c.uniform_of-u.ensures.most)) refl in
-    let next = ap (λ (r : Number). r.next) e ∙ (read (goal.at.returns-then-eight_left c).After-uniform_of-u).1 in
+    let next = ap (λ (r : Read ℕ). r.next) e ∙ (read (goal.at.returns-then-eight_left c).After-uniform_of-u).1 in
     rw ((read (goal.at.returns-then-eight_left c).After-uniform_of-u).0, next) refl

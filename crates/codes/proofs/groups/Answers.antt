@@ -9,13 +9,13 @@ use lib.IntN.{pos}
 use Rattle.codes.specs.Codes.{uleb_from}
 use Rattle.getbits.proofs.Callers.{as_read, read_lt}
 use Rattle.getbits.proofs.Chain.{through, taken, left}
-use Rattle.getbits.specs.declared.Number.{Number}
+use Rattle.getbits.specs.declared.Read.{Read}
 use Rattle.getbits.specs.declared.Place.{Place}
 use Rattle.getbits.specs.Bits.{get_bits}
 use Rattle.codes.proofs.groups.Goals as goal
 use Rattle.codes.proofs.groups.Goals.{After-read_bits-b}
 
-module _ (t : ℕ) (s : List ℕ) (q : Place) (b : Number) (e : b ≡ get_bits s q (pos 8)) where
+module _ (t : ℕ) (s : List ℕ) (q : Place) (b : Read ℕ) (e : b ≡ get_bits s q (pos 8)) where
   uleb_last : b.value < 128 → uleb_from (suc t) s q ≡ b
   unfolding uleb_from
   uleb_last h = through _ _ (as_read s q 8 (omega arith) e) ∙ taken _ _ _ (lt-ltb b.value 128 h)
@@ -49,27 +49,27 @@ module _ (k : After-read_bits-b) where
   abbrev s : List ℕ
   s = k.args.s.now
 
-  abbrev byte : Number
+  abbrev byte : Read ℕ
   byte = k.read_bits-b.result
 
-  some : k.loop-left.left ≡ suc (k.loop-left.left - 1)
+  some : (8 - k.loop.counter) ≡ suc (8 - k.loop.counter - 1)
   some = omega (arith, k)
 
-  weighs : k.loop-left.weight * 2 ^ (7 * suc (k.loop-left.left - 1)) ≡ 2 ^ 56
-  weighs = rw (← some) k.loop-left.invariant.1
+  weighs : k.loop.weight * 2 ^ (7 * suc (8 - k.loop.counter - 1)) ≡ 2 ^ 56
+  weighs = rw (← some) k.loop.invariant.2
 
   -- seven bits are less than the next weight
-  under : (x : ℕ) → x < 128 → k.loop-left.val + x * k.loop-left.weight < k.loop-left.weight * 128
-  under x h = omega (arith, mul-le-mul_right {m = x} {n = 127} k.loop-left.weight (omega arith), k.loop-left.invariant.0)
+  under : (x : ℕ) → x < 128 → k.loop.val + x * k.loop.weight < k.loop.weight * 128
+  under x h = omega (arith, mul-le-mul_right {m = x} {n = 127} k.loop.weight (omega arith), k.loop.invariant.1)
 
   byte_small : byte.value < 256
-  byte_small = byte_lt 0 s k.loop-left.q byte k.read_bits-b.ensures
+  byte_small = byte_lt 0 s k.loop.q byte k.read_bits-b.ensures
 
-  fits : k.loop-left.weight * 128 ≤ 2 ^ 56
-  fits = room k.loop-left.weight (k.loop-left.left - 1) weighs
+  fits : k.loop.weight * 128 ≤ 2 ^ 56
+  fits = room k.loop.weight (8 - k.loop.counter - 1) weighs
 
-pub loop-left-init : goal.loop-left-init
-loop-left-init c = (omega arith, refl, omega arith, refl)
+pub loop-init : goal.loop-init
+loop-init c = (omega arith, omega arith, refl, omega arith, refl)
 
 pub overflow_mul-result : goal.overflow_mul-result
 overflow_mul-result c = omega (arith, under (goal.at.overflow_mul-result c).After-read_bits-b (byte (goal.at.overflow_mul-result c).After-read_bits-b).value (omega arith), fits (goal.at.overflow_mul-result c).After-read_bits-b)
@@ -79,11 +79,11 @@ overflow_add-result c = omega (arith, under (goal.at.overflow_add-result c).Afte
 
 pub returns-then-v-lt128 : goal.returns-then-v-lt128
 returns-then-v-lt128 c =
-    let l = c.loop-left in
-    let e : uleb_from l.left (s (goal.at.returns-then-v-lt128 c).After-read_bits-b) l.q ≡ byte (goal.at.returns-then-v-lt128 c).After-read_bits-b =
-    ap (λ (n : ℕ). uleb_from n (s (goal.at.returns-then-v-lt128 c).After-read_bits-b) l.q) (some (goal.at.returns-then-v-lt128 c).After-read_bits-b) ∙ uleb_last (l.left - 1) (s (goal.at.returns-then-v-lt128 c).After-read_bits-b) l.q (byte (goal.at.returns-then-v-lt128 c).After-read_bits-b) c.read_bits-b.ensures c.if-v-lt128.true in (
-      ap (λ (x : ℕ). l.val + x) (mul_comm (byte (goal.at.returns-then-v-lt128 c).After-read_bits-b).value l.weight ∙ ap (λ (r : Number). l.weight * r.value) (sym e)) ∙ l.invariant.2,
-      ap (λ (r : Number). r.next) (sym e) ∙ l.invariant.3,
+    let l = c.loop in
+    let e : uleb_from (8 - l.counter) (s (goal.at.returns-then-v-lt128 c).After-read_bits-b) l.q ≡ byte (goal.at.returns-then-v-lt128 c).After-read_bits-b =
+    ap (λ (n : ℕ). uleb_from n (s (goal.at.returns-then-v-lt128 c).After-read_bits-b) l.q) (some (goal.at.returns-then-v-lt128 c).After-read_bits-b) ∙ uleb_last (8 - l.counter - 1) (s (goal.at.returns-then-v-lt128 c).After-read_bits-b) l.q (byte (goal.at.returns-then-v-lt128 c).After-read_bits-b) c.read_bits-b.ensures c.if-v-lt128.true in (
+      ap (λ (x : ℕ). l.val + x) (mul_comm (byte (goal.at.returns-then-v-lt128 c).After-read_bits-b).value l.weight ∙ ap (λ (r : Read ℕ). l.weight * r.value) (sym e)) ∙ l.invariant.3,
+      ap (λ (r : Read ℕ). r.next) (sym e) ∙ l.invariant.4,
     )
 
 pub overflow_mul-val : goal.overflow_mul-val
@@ -95,26 +95,26 @@ overflow_add-val c = omega (arith, under (goal.at.overflow_add-val c).After-read
 pub overflow_mul-weight : goal.overflow_mul-weight
 overflow_mul-weight c = omega (arith, fits (goal.at.overflow_mul-weight c).After-read_bits-b)
 
-pub loop-left-smaller : goal.loop-left-smaller
-loop-left-smaller c = omega arith
-
-pub loop-left-preserved : goal.loop-left-preserved
-loop-left-preserved c =
-    let l = c.loop-left in
-    let rest : Number = uleb_from (l.left - 1) (s (goal.at.loop-left-preserved c).After-read_bits-b) (byte (goal.at.loop-left-preserved c).After-read_bits-b).next in
-    let e : uleb_from l.left (s (goal.at.loop-left-preserved c).After-read_bits-b) l.q ≡ record { value = (byte (goal.at.loop-left-preserved c).After-read_bits-b).value - 128 + 128 * rest.value; next = rest.next } =
-    ap (λ (n : ℕ). uleb_from n (s (goal.at.loop-left-preserved c).After-read_bits-b) l.q) (some (goal.at.loop-left-preserved c).After-read_bits-b) ∙ uleb_more (l.left - 1) (s (goal.at.loop-left-preserved c).After-read_bits-b) l.q (byte (goal.at.loop-left-preserved c).After-read_bits-b) c.read_bits-b.ensures c.if-v-lt128.false in (
-      under (goal.at.loop-left-preserved c).After-read_bits-b ((byte (goal.at.loop-left-preserved c).After-read_bits-b).value - 128) (omega (arith, byte_small (goal.at.loop-left-preserved c).After-read_bits-b)),
-      heavier l.weight (l.left - 1) (weighs (goal.at.loop-left-preserved c).After-read_bits-b),
-      spread l.val ((byte (goal.at.loop-left-preserved c).After-read_bits-b).value - 128) l.weight rest.value ∙ ap (λ (r : Number). l.val + l.weight * r.value) (sym e) ∙ l.invariant.2,
-      ap (λ (r : Number). r.next) (sym e) ∙ l.invariant.3,
+pub loop-preserved : goal.loop-preserved
+loop-preserved c =
+    let l = c.loop in
+    let one : 8 - (l.counter + 1) ≡ 8 - l.counter - 1 = omega arith in
+    let rest : Read ℕ = uleb_from (8 - l.counter - 1) (s (goal.at.loop-preserved c).After-read_bits-b) (byte (goal.at.loop-preserved c).After-read_bits-b).next in
+    let e : uleb_from (8 - l.counter) (s (goal.at.loop-preserved c).After-read_bits-b) l.q ≡ record { value = (byte (goal.at.loop-preserved c).After-read_bits-b).value - 128 + 128 * rest.value; next = rest.next } =
+    ap (λ (n : ℕ). uleb_from n (s (goal.at.loop-preserved c).After-read_bits-b) l.q) (some (goal.at.loop-preserved c).After-read_bits-b) ∙ uleb_more (8 - l.counter - 1) (s (goal.at.loop-preserved c).After-read_bits-b) l.q (byte (goal.at.loop-preserved c).After-read_bits-b) c.read_bits-b.ensures c.if-v-lt128.false in
+    rw one (
+      omega arith,
+      under (goal.at.loop-preserved c).After-read_bits-b ((byte (goal.at.loop-preserved c).After-read_bits-b).value - 128) (omega (arith, byte_small (goal.at.loop-preserved c).After-read_bits-b)),
+      heavier l.weight (8 - l.counter - 1) (weighs (goal.at.loop-preserved c).After-read_bits-b),
+      spread l.val ((byte (goal.at.loop-preserved c).After-read_bits-b).value - 128) l.weight rest.value ∙ ap (λ (r : Read ℕ). l.val + l.weight * r.value) (sym e) ∙ l.invariant.3,
+      ap (λ (r : Read ℕ). r.next) (sym e) ∙ l.invariant.4,
     )
 
 pub returns : goal.returns
 returns c =
-    let l = c.loop-left in
+    let l = c.loop in
     let s = c.args.s.now in
-    let e : uleb_from l.left s l.q ≡ record { value = 0; next = l.q } = ap (λ (n : ℕ). uleb_from n s l.q) (omega arith) ∙ uleb_none s l.q in (
-      omega (arith, ap (λ (r : Number). l.weight * r.value) e, l.invariant.2),
-      ap (λ (r : Number). r.next) (sym e) ∙ l.invariant.3,
+    let e : uleb_from (8 - l.counter) s l.q ≡ record { value = 0; next = l.q } = ap (λ (n : ℕ). uleb_from n s l.q) (omega arith) ∙ uleb_none s l.q in (
+      omega (arith, ap (λ (r : Read ℕ). l.weight * r.value) e, l.invariant.3),
+      ap (λ (r : Read ℕ). r.next) (sym e) ∙ l.invariant.4,
     )

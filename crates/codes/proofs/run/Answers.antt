@@ -14,7 +14,7 @@ returns-then-most-eq0 c = rw c.if-most-eq0.true
 pub returns : goal.returns
 returns c =
     let a = c.args in
-    let n = c.umin-n.result in
+    let n = c.min-n.result in
     run_word a.bit a.most a.s.now a.p (omega arith) (omega arith) (omega arith) c.look-w.ensures
-    (c.umin-n.ensures ∙ ap (λ (x : ℕ). min (count_leading_zeros 32 x) a.most) c.as_zeros.ensures)
-    (as_read a.s.now a.p (min (n + 1) a.most) (omega arith) (rw c.umin.ensures at c.read_wide-r.ensures))
+    (c.min-n.ensures ∙ ap (λ (x : ℕ). min (count_leading_zeros 32 x) a.most) c.as_zeros.ensures)
+    (as_read a.s.now a.p (min (n + 1) a.most) (omega arith) (rw c.min.ensures at c.read_wide-r.ensures))

@@ -10,7 +10,7 @@ use Rattle.codes.proofs.Callers.{subexp_lt, pow_lt_only}
 use Rattle.codes.specs.Codes.{plus, get_uniform, subexp_from}
 use Rattle.getbits.proofs.Callers.{as_read, power_below}
 use Rattle.getbits.proofs.Chain.{through, taken, left}
-use Rattle.getbits.specs.declared.Number.{Number}
+use Rattle.getbits.specs.declared.Read.{Read}
 use Rattle.getbits.specs.declared.Place.{Place}
 use Rattle.getbits.specs.Bits.{read_bits, get_bit, get_bits}
 use Rattle.getbits.specs.Chain.{pick, then}
@@ -37,10 +37,10 @@ module _ (k : After-power-a) where
   twos : k.power-a.result ≡ 2 ^ b
   twos = power_below (omega (arith, k.step_bits-b.ensures)) k.power-a.ensures.0
 
-  abbrev whole : Number
+  abbrev whole : Read ℕ
   whole = subexp_from 33 s k.args.p n k.args.k 0 0
 
-  abbrev onward : Place → Number
+  abbrev onward : Place → Read ℕ
   onward p = subexp_from (32 - k.loop-v.i) s p n k.args.k (k.loop-v.i + 1) (v + 2 ^ b)
 
   opened : whole
@@ -51,21 +51,21 @@ module _ (k : After-power-a) where
       sym k.loop-v.invariant.3 ∙ ap (λ (x : ℕ). subexp_from x s q n k.args.k k.loop-v.i v) e ∙ through _ _ k.step_bits-b.ensures
 
   -- the rest of n as uniform
-  rest : (r : Number) → r ≡ get_uniform s q (n - v) → n ≤ v + 3 * k.power-a.result
+  rest : (r : Read ℕ) → r ≡ get_uniform s q (n - v) → n ≤ v + 3 * k.power-a.result
       → plus v r ≡ whole
   rest r e h = ap (plus v) e ∙ sym (opened ∙ taken _ _ _ (le-leb n (v + 3 * 2 ^ b) (omega (arith, twos))))
 
   -- a number that is the whole reading's is below n
-  within : (r : Number) → plus v r ≡ whole → v + r.value < 2 ^ 31
+  within : (r : Read ℕ) → plus v r ≡ whole → v + r.value < 2 ^ 31
   within r e =
-      omega (arith, subexp_lt 33 s k.args.p n k.args.k 0 0 k.requires.1, ap (λ (x : Number). x.value) e, k.requires.2)
+      omega (arith, subexp_lt 33 s k.args.p n k.args.k 0 0 k.requires.1, ap (λ (x : Read ℕ). x.value) e, k.requires.2)
 
-  module _ (g : Number) (e : g ≡ get_bit s q) (h : v + 3 * k.power-a.result < n) where
+  module _ (g : Read ℕ) (e : g ≡ get_bit s q) (h : v + 3 * k.power-a.result < n) where
     behind : whole ≡ pick (eqb g.value 0) (plus v (read_bits s g.next b)) (onward g.next)
     behind = opened ∙ left _ _ _ (lt-leb n (v + 3 * 2 ^ b) (omega (arith, twos))) ∙ through _ _ e
 
     -- the number is in this step
-    here : g.value ≡ 0 → (r : Number) → r ≡ get_bits s g.next (pos b)
+    here : g.value ≡ 0 → (r : Read ℕ) → r ≡ get_bits s g.next (pos b)
         → plus v r ≡ whole
     here z r f = ap (plus v) (as_read s g.next b (omega (arith, k.step_bits-b.ensures)) f) ∙ sym (behind ∙ taken _ _ _ (eq-eqb g.value 0 z))
 

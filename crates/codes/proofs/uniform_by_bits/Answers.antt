@@ -9,7 +9,7 @@ use lib.Dec.{ltb}
 use Rattle.codes.specs.Codes.{get_uniform}
 use Rattle.getbits.proofs.Callers.{as_read, read_none, read_lt, bit_lt}
 use Rattle.getbits.proofs.Chain.{through, taken, left}
-use Rattle.getbits.specs.declared.Number.{Number}
+use Rattle.getbits.specs.declared.Read.{Read}
 use Rattle.getbits.specs.declared.Place.{Place}
 use Rattle.getbits.specs.Bits.{get_bit, get_bits}
 use Rattle.getbits.specs.Chain.{pick, then}
@@ -41,9 +41,9 @@ module _ (c : After-uniform_forms-f) where
       (is.0, is.1, is.3)
 
   -- with l - 1 bits read
-  module _ (r : Number) (e : r ≡ get_bits s p (pos (l - 1))) where
+  module _ (r : Read ℕ) (e : r ≡ get_bits s p (pos (l - 1))) where
     value_lt : (r.value < 2 ^ (l - 1)) × (2 ^ (l - 1) ≤ max)
-    value_lt = (omega (arith, read_lt s p (l - 1), ap (λ (x : Number). x.value) (as_read s p (l - 1) (omega (arith, forms.1)) e)), forms.2)
+    value_lt = (omega (arith, read_lt s p (l - 1), ap (λ (x : Read ℕ). x.value) (as_read s p (l - 1) (omega (arith, forms.1)) e)), forms.2)
 
     behind : get_uniform s p max ≡ pick (ltb r.value m) r (then (get_bit s r.next) λ b. record { value = 2 * r.value - m + b.value; next = b.next })
     behind =
@@ -53,7 +53,7 @@ module _ (c : After-uniform_forms-f) where
     short : r.value < m → r ≡ get_uniform s p max
     short h = sym (behind ∙ taken _ _ _ (lt-ltb r.value m h))
 
-    long : (b : Number) → b ≡ get_bit s r.next → m ≤ r.value → record { value = 2 * r.value - m + b.value; next = b.next } ≡ get_uniform s p max
+    long : (b : Read ℕ) → b ≡ get_bit s r.next → m ≤ r.value → record { value = 2 * r.value - m + b.value; next = b.next } ≡ get_uniform s p max
     long b f h = sym (behind ∙ left _ _ _ (le-ltb r.value m h) ∙ through _ _ f)
 
 pub returns-then-max-le1 : goal.returns-then-max-le1
@@ -85,7 +85,7 @@ pub overflow_add-result : goal.overflow_add-result
 overflow_add-result c =
     let b = c.get_bit-b in
     let v = value_lt (goal.at.overflow_add-result c).After-uniform_forms-f c.read_bits-r.result c.read_bits-r.ensures in
-    omega (arith, v.0, v.1, bit_lt (s (goal.at.overflow_add-result c).After-uniform_forms-f) c.read_bits-r.result.next, ap (λ (x : Number). x.value) b.ensures, c)
+    omega (arith, v.0, v.1, bit_lt (s (goal.at.overflow_add-result c).After-uniform_forms-f) c.read_bits-r.result.next, ap (λ (x : Read ℕ). x.value) b.ensures, c)
 
 pub returns : goal.returns
 returns c =

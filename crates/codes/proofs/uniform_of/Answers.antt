@@ -15,7 +15,7 @@ use Rattle.getbits.proofs.Fields.{bits_top}
 use Rattle.getbits.proofs.Places.{lt_or_le}
 use Rattle.getbits.specs.Bits.{bits_at, bit_count, position, read_bits, look_at, get_bit}
 use Rattle.getbits.specs.Chain.{pick, then}
-use Rattle.getbits.specs.declared.Number.{Number}
+use Rattle.getbits.specs.declared.Read.{Read}
 use Rattle.getbits.specs.declared.Place.{Place}
 use Rattle.codes.proofs.uniform_of.Goals as goal
 
@@ -28,10 +28,10 @@ module _ (s : List ℕ) (p : Place) (word max l m : ℕ) (el : l ≡ bit_length 
   abbrev x : ℕ
   x = word / 2 ^ (32 - l)
 
-  abbrev most : Number
+  abbrev most : Read ℕ
   most = read_bits s p (l - 1)
 
-  abbrev last : Number
+  abbrev last : Read ℕ
   last = get_bit s most.next
 
   bits : x ≡ bits_at s (position s p) l
@@ -55,19 +55,19 @@ module _ (s : List ℕ) (p : Place) (word max l m : ℕ) (el : l ≡ bit_length 
   short : x / 2 < m → (x / 2 ≡ (get_uniform s p max).value) × ((read_bits s p (l - 1)).next ≡ (get_uniform s p max).next)
   short h =
       let e = behind ∙ taken _ _ _ (lt-ltb most.value m (omega (arith, half))) in
-      (half ∙ sym (ap (λ (r : Number). r.value) e), sym (ap (λ (r : Number). r.next) e))
+      (half ∙ sym (ap (λ (r : Read ℕ). r.value) e), sym (ap (λ (r : Read ℕ). r.next) e))
 
   long : m ≤ x / 2 → (x - m ≡ (get_uniform s p max).value) × ((read_bits s p l).next ≡ (get_uniform s p max).next)
   long h =
       let e = behind ∙ left _ _ _ (le-ltb most.value m (omega (arith, half))) ∙ through _ _ refl in
-      (omega (arith, more.0, half) ∙ sym (ap (λ (r : Number). r.value) e), more.1 ∙ sym (ap (λ (r : Number). r.next) e))
+      (omega (arith, more.0, half) ∙ sym (ap (λ (r : Read ℕ). r.value) e), more.1 ∙ sym (ap (λ (r : Read ℕ). r.next) e))
 
 -- one number alone takes no bit
 one : (s : List ℕ) (p : Place) (max : ℕ) → max ≤ 1 → (0 ≡ (get_uniform s p max).value) × ((read_bits s p 0).next ≡ (get_uniform s p max).next)
 unfolding get_uniform
 one s p max h =
     let e = taken _ _ _ (le-leb max 1 h) in
-    (sym (ap (λ (r : Number). r.value) e), ap (λ (r : Number). r.next) (read_none s p) ∙ sym (ap (λ (r : Number). r.next) e))
+    (sym (ap (λ (r : Read ℕ). r.value) e), ap (λ (r : Read ℕ). r.next) (read_none s p) ∙ sym (ap (λ (r : Read ℕ). r.next) e))
 
 one_bit : bit_length 1 ≡ 1
 unfolding count_leading_zeros
@@ -97,13 +97,13 @@ returns-then-w-f c =
           let m : c.uniform_forms-f.result.short ≡ 1 = e.1 ∙ ap (λ (n : ℕ). 2 ^ bit_length n - n) z ∙ ap (λ (n : ℕ). 2 ^ n - 1) one_bit in
           let r = one s p a.max (omega arith) in
           let v : a.word / 2 ^ (32 - l) / 2 ≡ 0 = omega (arith, m, c.if-w-f.true) in
-          let u : c.less_one.result ≡ 0 = omega (arith, c.less_one.ensures, b) in
+          let u : c.saturating_sub.result ≡ 0 = omega (arith, c.saturating_sub.ensures, b) in
           (v ∙ r.0, ap (λ (n : ℕ). (read_bits s p n).next) u ∙ r.1))
           (λ more.
           let r = short s p a.word a.max l c.uniform_forms-f.result.short e.0 e.1 looked there more low c.if-w-f.true in
-          (r.0, ap (λ (n : ℕ). (read_bits s p n).next) c.less_one.ensures ∙ r.1))
+          (r.0, ap (λ (n : ℕ). (read_bits s p n).next) c.saturating_sub.ensures ∙ r.1))
           (lt_or_le a.max 2);
-      most = omega (arith, c.less_one.ensures, e.0);
+      most = omega (arith, c.saturating_sub.ensures, e.0);
     }
 
 pub overflow_sub-result : goal.overflow_sub-result

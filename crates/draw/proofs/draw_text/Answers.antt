@@ -1,22 +1,14 @@
 use mathlib.Core.Path.{◌≡◌}
-use Prim.Native.Nat.{◌-◌}
 use native.Mathlib.Omega.{arith}
-use borrow.Author.Rules.{rules}
-use borrow.Author.Tests.{ne_eqb}
-use lib.ListN.{length, take, drop, length-drop}
-use lib.Seq.{take_all}
+use lib.ListN.{length}
+use Rattle.draw.proofs.Titles.{printed}
 use Rattle.draw.specs.Print.{draw_text}
-use Rattle.text.proofs.Puts.{stands}
 use Rattle.text.specs.Text.{word}
 use Rattle.draw.proofs.draw_text.Goals as goal
 
-pub returns-then-input-eq0 : goal.returns-then-input-eq0
+pub returns-in-empty : goal.returns-in-empty
 unfolding draw_text word
-returns-then-input-eq0 c = record { prefix_len = (stands (search rules) c.put_refusal.ensures).0; out_after = rw c.if-input-eq0.true (stands (search rules) c.put_refusal.ensures).1 }
-
-pub returns : goal.returns
-unfolding draw_text
-returns c =
-    let s = c.args.input.now in
-    let rest : take (length s - 1) (drop 1 s) ≡ drop 1 s = take_all (length s - 1) (drop 1 s) (simp length-drop (omega arith)) in
-    record { prefix_len = (stands (search rules) c.put_rest.ensures).0; out_after = rw (ne_eqb _ _ c.if-input-eq0.false, ← rest) (stands (search rules) c.put_rest.ensures).1 }
+returns-in-empty c =
+    let none : length c.args.input.now ≡ 0 = omega (arith, c.in-empty.len_below) in
+    let p = c.put_refusal.ensures in
+    λ e. rw none (printed _ _ _ _ e p.text (omega (arith, p.size)))

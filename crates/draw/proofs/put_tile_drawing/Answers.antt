@@ -1,40 +1,19 @@
 use native.Mathlib.Omega.{arith}
-use Rattle.draw.proofs.Titles.{room}
+use Rattle.draw.proofs.Titles.{titled}
 use Rattle.draw.specs.Print.{tile_draw_text}
 use Rattle.getbits.proofs.Widths.{back}
 use Rattle.getbits.specs.Chain.{then}
-use Rattle.text.proofs.Puts.{also, within, kept, stands}
+use Rattle.text.proofs.Chains.{sizes}
 use Rattle.draw.proofs.put_tile_drawing.Goals as goal
-
-pub slice_bounds-title-end : goal.slice_bounds-title-end
-slice_bounds-title-end c =
-    let p = c.put_arguments-args.ensures in
-    omega (arith, (stands (omega (arith, room)) p).0.0, kept p, room)
-
-pub slice_bounds-put_refusal-end : goal.slice_bounds-put_refusal-end
-slice_bounds-put_refusal-end c = (stands (omega (arith, room)) c.put_arguments-args.ensures).0.1
-
-pub returns-then-is_refusal : goal.returns-then-is_refusal
-unfolding tile_draw_text then
-returns-then-is_refusal c =
-    let p = c.put_arguments-args.ensures in
-    let title = stands (omega (arith, room)) p in
-    rw (← c.tile_request-r.ensures, ← c.is_refusal.ensures, c.if-is_refusal.true, ← c.number.ensures, ← title.1) (within (omega (arith, title.0, kept p)) c.put_refusal.ensures)
-
-pub slice_bounds-title-end-2 : goal.slice_bounds-title-end-2
-slice_bounds-title-end-2 c =
-    let p = also c.put_arguments-args.ensures c.put_read-all.ensures in
-    omega (arith, (stands (omega (arith, room)) p).0.0, kept p, room)
-
-pub slice_bounds-put_drawing-end : goal.slice_bounds-put_drawing-end
-slice_bounds-put_drawing-end c = (stands (omega (arith, room)) (also c.put_arguments-args.ensures c.put_read-all.ensures)).0.1
 
 pub returns : goal.returns
 unfolding tile_draw_text then
-returns c =
-    let p = also c.put_arguments-args.ensures c.put_read-all.ensures in
-    let title = stands (omega (arith, room)) p in
+returns g c =
+    let p = c.put_arguments.ensures in
+    let q = c.put_read.ensures in
+    let title = titled _ _ _ _ _ _ c.new-title.ensures p.text q.text c.as_slice-2.ensures p.size q.size in
     let w = c.samples-w in
     let h = c.samples-h in
-    rw (← c.tile_request-r.ensures, ← c.is_refusal.ensures, c.if-is_refusal.false, ← c.byte_at.ensures, ← title.1)
-    (within (omega (arith, title.0, kept p)) (rw (back w.result w.type_inv, back h.result h.type_inv, w.ensures, h.ensures) at c.put_drawing.ensures))
+    let drawn = rw (title, back w.result w.type_inv, back h.result h.type_inv, w.ensures, h.ensures) at c.put_drawing.ensures in
+    rw (← c.tile_request-r.ensures, ← c.is_refusal.ensures, c.if-is_refusal.false, ← c.byte_at.ensures)
+    (record { text = drawn.text; size = omega (arith, drawn.size, sizes _ _ p.size q.size) })

@@ -5,4 +5,4 @@ use Rattle.drawing.proofs.middle.Goals as goal
 
 pub returns : goal.returns
 unfolding middle_of
-returns c = rw (← c.least-size.ensures) (refl, omega (arith, c.requires.size))
+returns c = rw (← c.min-size.ensures) (refl, omega (arith, c.requires.size))

@@ -4,6 +4,7 @@ use mathlib.Core.Path.{◌≡◌, sym, ap, ◌∙◌}
 use Prim.Native.Nat.{ℕ, ◌*◌, ◌≤◌}
 use native.Mathlib.Nat.{mul_comm}
 use native.Mathlib.Omega.{arith}
+use borrow.Author.Rules.{rules}
 use borrow.Author.Tests.{not-true, not-false}
 use mir.Facts.{to_z-of_z}
 use lib.ListN.{length, drop, replicate, length-append, length-replicate}
@@ -15,7 +16,6 @@ use Rattle.rectangles.proofs.Answers.{accepted, refuses}
 use Rattle.rectangles.proofs.Places.{long}
 use Rattle.rectangles.proofs.Rising.{described, frame_sizes}
 use Rattle.rectangles.specs.Rectangles.{has_rectangles, rectangle_numbers, rectangles, tile_rectangles}
-use Rattle.text.proofs.Puts.{within}
 use Rattle.tile_layout.specs.Limits.{unsigned}
 use Rattle.tile_layout.specs.declared.TileInfo.{TileInfo}
 use Rattle.drawing.proofs.put_drawing.Goals as goal
@@ -46,35 +46,35 @@ module _ (t : TileInfo) (code w h : ℕ) (answer : Answer) (numbers : List ℕ) 
 
 pub returns-then-is_refusal : goal.returns-then-is_refusal
 unfolding drawing_text
-returns-then-is_refusal c =
+returns-then-is_refusal g c =
     let a = c.args in
     let called = rw (to_z-of_z c.ranges.w, to_z-of_z c.ranges.h) at c.tile_rectangles-answer.ensures.out_after in
-    rw (none a.t a.sb128 (unsigned a.w) (unsigned a.h) _ _ called (sym c.is_refusal.ensures ∙ c.if-is_refusal.true)) (within (omega arith) c.put_refusal.ensures)
+    rw (none a.t a.sb128 (unsigned a.w) (unsigned a.h) _ _ called (sym c.is_refusal.ensures ∙ c.if-is_refusal.true)) (record { text = c.put_refusal.ensures.text; size = omega (arith, c.put_refusal.ensures.size) })
 
 pub view_of-v-requires : goal.view_of-v-requires
-view_of-v-requires c =
+view_of-v-requires g c =
     let a = c.args in
     let called = rw (to_z-of_z c.ranges.w, to_z-of_z c.ranges.h) at c.tile_rectangles-answer.ensures.out_after in
     let sizes = frame_sizes a.t a.sb128 (unsigned a.w) (unsigned a.h) (has _ _ _ _ _ _ called (sym c.is_refusal.ensures ∙ c.if-is_refusal.false)) in
     (rw (c.not_below_0.ensures, to_z-of_z c.ranges.w) sizes.0, rw (c.not_below_0-2.ensures, to_z-of_z c.ranges.h) sizes.1)
 
 pub side_of-requires : goal.side_of-requires
-side_of-requires c =
+side_of-requires g c =
     let a = c.args in
     let called = rw (to_z-of_z c.ranges.w, to_z-of_z c.ranges.h) at c.tile_rectangles-answer.ensures.out_after in
     (described a.t a.sb128 (unsigned a.w) (unsigned a.h) (has _ _ _ _ _ _ called (sym c.is_refusal.ensures ∙ c.if-is_refusal.false))).small_code
 
 pub put_picture-requires : goal.put_picture-requires
-put_picture-requires c =
+put_picture-requires g c =
     let a = c.args in
     let called = rw (to_z-of_z c.ranges.w, to_z-of_z c.ranges.h) at c.tile_rectangles-answer.ensures.out_after in
     let accepted = sym c.is_refusal.ensures ∙ c.if-is_refusal.false in
     let d = described a.t a.sb128 (unsigned a.w) (unsigned a.h) (has _ _ _ _ _ _ called accepted) in
-    (c.view_of-v.ensures.1, c.side_of.ensures.1, d.some_cols, d.most_cols, d.some_rows, d.most_rows, room a.t a.sb128 (unsigned a.w) (unsigned a.h) _ _ called accepted)
+    (search rules, (c.view_of-v.ensures.1, c.side_of.ensures.1, d.some_cols, d.most_cols, d.some_rows, d.most_rows, room a.t a.sb128 (unsigned a.w) (unsigned a.h) _ _ called accepted))
 
 pub returns : goal.returns
 unfolding drawing_text
-returns c =
+returns g c =
     let a = c.args in
     let t = a.t in
     let w = unsigned a.w in

@@ -1,32 +1,24 @@
-use mathlib.Core.Path.{refl}
-use native.Mathlib.Omega.{arith}
-use borrow.Author.Rules.{rules}
-use lib.Dec.{eqb}
-use lib.ListN.{length, get_or}
-use lib.Seq.{take_all}
-use Rattle.drawing.proofs.Marked.{marked_more, longer}
-use Rattle.text.proofs.Filled.{marks, marks_more}
-use Rattle.text.proofs.Puts.{none, also, within, kept}
-use Rattle.text.specs.Text.{mark, filled}
+use Rattle.std.proofs.Common.{length, arith}
+use Rattle.std.proofs.lemmas.Grind.{common_steps}
+use Rattle.drawing.specs.Template.{integers}
+use Rattle.drawing.proofs.Marked.{number, longer}
+use Rattle.text.proofs.Puts.{puts}
+use Rattle.text.proofs.Filled.{filled_mark, filled_other, filled_end}
 use Rattle.drawing.proofs.put_marked.Goals as goal
+use Rattle.drawing.proofs.put_marked.Goals.{then-c-eq35, else-c-eq35}
 
-pub loop-i-init : goal.loop-i-init
-unfolding filled marks
-loop-i-init c = ((search rules, search rules), refl, within (omega arith) (none _ _))
+pub loop-c-preserved : goal.loop-c-preserved
+loop-c-preserved g c = elim c.if-c-eq35.branch [
+  | then-c-eq35 w ↦ let e = filled_mark c.args.template.now (integers c.args.xs.now) c.loop-c.c-index c.loop-c.k c.loop-c-test.true w.if-c-eq35.true in
+      let n = number c.args.xs.now c.loop-c.k in
+      let m = longer c.loop-c.k (length c.args.xs.now) in
+      grind (arith, puts, common_steps)
+  | else-c-eq35 w ↦ let e = filled_other c.args.template.now (integers c.args.xs.now) c.loop-c.c-index c.loop-c.k c.loop-c-test.true w.if-c-eq35.false in
+      grind (arith, puts, common_steps)
+]
 
-pub loop-i-preserved : goal.loop-i-preserved
-loop-i-preserved c =
-    let t = c.args.template.now in
-    let xs = c.args.xs.now in
-    let more = c.loop-i-test.true in
-    let size = longer (eqb (get_or t c.loop-i.i 0) mark) c.loop-i.k (length xs) in (
-      (search rules, omega (arith, c.loop-i.invariant.0.1, c.used_by-k.ensures.1)),
-      omega (arith, marks_more t c.loop-i.i more, c.used_by-k.ensures.0, c.loop-i.invariant.1),
-      rw (marked_more t xs c.loop-i.i c.loop-i.k more c.loop-i.invariant.1, c.used_by-k.ensures.0) (within (omega (arith, size)) (also c.loop-i.invariant.2 c.put_filler-next.ensures)),
-    )
+pub returns-clause-text : goal.returns-clause-text
+returns-clause-text g c = grind (arith, puts, filled_end)
 
-pub returns : goal.returns
-returns c = within (omega (arith, c.loop-i.invariant.0.0)) (rw (take_all _ _ c.loop-i-test.false) at c.loop-i.invariant.2)
-
-pub shape_of-out : goal.shape_of-out
-shape_of-out c = kept c.loop-i.invariant.2
+pub returns-clause-size : goal.returns-clause-size
+returns-clause-size g c = grind (arith, puts, filled_end)

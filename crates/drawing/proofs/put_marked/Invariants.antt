@@ -1,14 +1,12 @@
-use mathlib.Core.Path.{◌≡◌}
-use Prim.Native.Nat.{◌+◌, ◌-◌, ◌*◌, ◌≤◌, min}
-use lib.ListN.{length, take}
-use Rattle.drawing.specs.Template.{marked}
-use Rattle.text.proofs.Filled.{marks}
-use Rattle.text.specs.Text.{Put}
+use Rattle.std.proofs.Common.{◌≡◌, ◌+◌, ◌*◌, ◌≤◌, min, length, drop}
+use Rattle.drawing.specs.Template.{integers, marked}
+use Rattle.text.specs.Text.{put, filled}
 use Rattle.drawing.proofs.put_marked.Given as goal
 
-abbrev pub invariant-loop-i : goal.invariant-loop-i
-invariant-loop-i l =
-    ((l.i ≤ length l.template) × (l.k ≤ l.i)) × (l.k ≡ marks (take l.i l.template)) × Put (l.i + 19 * min l.k (length l.xs)) l.initial.out l.at (marked (take l.i l.template) l.xs) l.out l.next
-
-abbrev pub decreases-loop-i : goal.decreases-loop-i
-decreases-loop-i l = length l.template - l.i
+-- what is left of the template is to be filled
+abbrev pub invariant-loop-c : goal.invariant-loop-c
+invariant-loop-c g l = record {
+  in_range : l.k ≤ l.c-index;
+  text : put g.row.N l.out (filled (drop l.c-index l.template) (integers l.xs) l.k) ≡ put g.row.N l.initial.out (marked l.template l.xs);
+  size : length (marked l.template l.xs) ≤ l.c-index + 19 * min l.k (length l.xs) + length (filled (drop l.c-index l.template) (integers l.xs) l.k);
+}

@@ -2,20 +2,27 @@ use mathlib.Core.List.{List}
 use mathlib.Core.Path.{◌≡◌, ap, ◌∙◌}
 use Prim.Native.Nat.{ℕ, ◌+◌, ◌-◌, ◌*◌}
 use native.Mathlib.Omega.{arith}
+use Rattle.std.proofs.Common.{le_refl}
 use lib.ListN.{take, drop}
 use Rattle.drawing.specs.Drawing.{picture_text, columns_end, rows_end}
 use Rattle.drawing.specs.View.{rect_of, column_of, row_of, behind_of}
 use Rattle.drawing.specs.declared.Span.{Span}
-use Rattle.text.proofs.Puts.{also, within, kept}
+use Rattle.text.proofs.Chains.{also, sizes}
 use Rattle.text.specs.Text.{word}
 use Rattle.drawing.proofs.put_picture.Goals as goal
 
 pub returns : goal.returns
 unfolding picture_text word
-returns c =
+returns g c =
     let a = c.args in
-    let cols = c.u8_to_usize-cols.result in
-    let rows = c.u8_to_usize-rows.result in
+    let head = c.put_head.ensures in
+    let note = c.put_note.ensures in
+    let grid = c.put_grid.ensures in
+    let layout = c.put_layout.ensures in
+    let above = c.put_columns.ensures in
+    let left = c.put_rows.ensures in
+    let cols = c.from-cols.result in
+    let rows = c.from-rows.result in
     let xs = a.xs.now in
     let last : cols - 1 ≡ 0 * cols + (cols - 1) = omega arith in
     let low : (rows - 1) * cols ≡ (rows - 1) * cols + 0 = omega arith in
@@ -25,9 +32,8 @@ returns c =
     let bottom : c.behind-bottom.result ≡ rows_end a.v rows (rect_of xs cols) =
     c.behind-bottom.ensures.0 ∙ ap (λ (s : Span). behind_of s (68 * a.v.unit)) (c.row.ensures.0
     ∙ ap (λ (r : List ℕ). row_of a.v (rows - 1) r) (c.rect_at-2.ensures ∙ ap (λ (n : ℕ). take 4 (drop (4 * n) xs)) low)) in
-    rw (← c.u8_to_usize-cols.ensures, ← c.u8_to_usize-rows.ensures, ← right, ← bottom)
-    (within (omega arith)
-    (also (also (also (also (also (also c.put_head-head.ensures c.put_note-note.ensures) c.put_grid-grid.ensures) c.put_layout-layout.ensures) c.put_columns-above.ensures) c.put_rows-left.ensures) c.put_word.ensures))
-
-pub shape_of-out : goal.shape_of-out
-shape_of-out c = kept (returns c)
+    rw (← c.from-cols.ensures, ← c.from-rows.ensures, ← right, ← bottom)
+    (record {
+      text = also _ _ _ _ (also _ _ _ _ (also _ _ _ _ (also _ _ _ _ (also _ _ _ _ (also _ _ _ _ head.text note.text) grid.text) layout.text) above.text) left.text) c.push_word.ensures;
+      size = omega (arith, sizes _ (word "</svg>\n") (sizes _ _ (sizes _ _ (sizes _ _ (sizes _ _ (sizes _ _ head.size note.size) grid.size) layout.size) above.size) left.size) (le_refl _));
+    })

@@ -1,4 +1,4 @@
-use mathlib.Core.Path.{◌≡◌}
+use mathlib.Core.Path.{sym}
 use Prim.Native.Nat.{ℕ, ◌+◌, ◌*◌, ◌≤◌, ◌<◌}
 use native.Mathlib.Nat.{mul-le-mul}
 use native.Mathlib.Omega.{arith}
@@ -7,7 +7,8 @@ use Rattle.drawing.specs.Picture.{tile_text}
 use Rattle.drawing.specs.View.{rect_of}
 use Rattle.rectangles.proofs.Each.{each_more}
 use Rattle.rectangles.specs.Rectangles.{each}
-use Rattle.text.proofs.Puts.{none, also, within, kept}
+use Rattle.text.proofs.Puts.{put-nil}
+use Rattle.text.proofs.Chains.{also, sizes}
 use Rattle.drawing.proofs.put_row.Goals as goal
 
 -- the tiles before the row
@@ -16,32 +17,27 @@ before {j} h n = let l : j ≤ 64 = omega arith in mul-le-mul l n
 
 pub loop-i-init : goal.loop-i-init
 unfolding each
-loop-i-init c = (search rules, none _ _)
+loop-i-init g c = record { text = sym (put-nil _ _); size = omega arith }
 
 pub overflow_mul-k : goal.overflow_mul-k
-overflow_mul-k c = omega (arith, before c.requires.2 c.requires.1)
+overflow_mul-k g c = omega (arith, before c.requires.2 c.requires.1)
 
 pub overflow_add-k : goal.overflow_add-k
-overflow_add-k c = omega (arith, before c.requires.2 c.requires.1, c.requires.1)
+overflow_add-k g c = omega (arith, before c.requires.2 c.requires.1, c.requires.1)
 
 pub overflow_mul-k-in-loop-i : goal.overflow_mul-k-in-loop-i
-overflow_mul-k-in-loop-i c = omega (arith, before c.requires.2 c.requires.1, c.requires.1)
+overflow_mul-k-in-loop-i g c = omega (arith, before c.requires.2 c.requires.1, c.requires.1)
 
 pub rect_at-requires : goal.rect_at-requires
-rect_at-requires c = omega (arith, c.requires.3, c.loop-i-test.true)
+rect_at-requires g c = omega (arith, c.requires.3, c.loop-i-test.true)
 
-pub put_tile-next-requires : goal.put_tile-next-requires
-put_tile-next-requires c = (c.requires.0, omega (arith, c.requires.1, c.loop-i-test.true), c.requires.2)
+pub put_tile-requires : goal.put_tile-requires
+put_tile-requires g c = (search rules, (c.requires.0, omega (arith, c.requires.1, c.loop-i-test.true), c.requires.2))
 
 pub loop-i-preserved : goal.loop-i-preserved
-loop-i-preserved c =
+loop-i-preserved g c =
     let a = c.args in
-    (search rules, rw (← each_more (λ k. tile_text a.v k a.j (a.j * a.cols + k) (rect_of a.xs.now a.cols k a.j)) c.loop-i.i) (within (omega arith) (also c.loop-i.invariant.1 (rw c.rect_at.ensures at c.put_tile-next.ensures))))
-
-pub shape_of-out : goal.shape_of-out
-shape_of-out c = kept c.loop-i.invariant.1
-
-pub returns : goal.returns
-returns c =
-    let e : c.loop-i.i ≡ c.args.cols = omega arith in
-    within (omega (arith, c.requires.1)) (rw e at c.loop-i.invariant.1)
+    let kept = c.loop-i.invariant in
+    let p = rw c.rect_at.ensures at c.put_tile.ensures in
+    let more = each_more (λ k. tile_text a.v k a.j (a.j * a.cols + k) (rect_of a.xs.now a.cols k a.j)) c.loop-i.i in
+    record { text = rw (← more) (also _ _ _ _ kept.text p.text); size = rw (← more) (omega (arith, sizes _ _ kept.size p.size)) }

@@ -1,4 +1,4 @@
-use mathlib.Core.Path.{◌≡◌}
+use mathlib.Core.Path.{sym}
 use Prim.Native.Nat.{ℕ, ◌+◌, ◌*◌, ◌≤◌, ◌<◌}
 use native.Mathlib.Nat.{add-mul, mul-le-mul, mul-le-mul_right}
 use native.Mathlib.Omega.{arith}
@@ -8,7 +8,8 @@ use Rattle.drawing.specs.Picture.{left_text}
 use Rattle.drawing.specs.View.{row_of}
 use Rattle.rectangles.proofs.Each.{each_more}
 use Rattle.rectangles.specs.Rectangles.{each}
-use Rattle.text.proofs.Puts.{none, also, within, kept}
+use Rattle.text.proofs.Puts.{put-nil}
+use Rattle.text.proofs.Chains.{also, sizes}
 use Rattle.drawing.proofs.put_row_starts.Goals as goal
 
 -- there are numbers for the row's first tile
@@ -19,35 +20,27 @@ room j cols rows most c r some h l =
 
 pub loop-j-init : goal.loop-j-init
 unfolding each
-loop-j-init c = (search rules, none _ _)
+loop-j-init g c = record { text = sym (put-nil _ _); size = omega arith }
 
 pub overflow_mul-j : goal.overflow_mul-j
-overflow_mul-j c = omega (arith, (room _ _ _ _ c.requires.1 c.requires.2 c.requires.3 c.requires.4 c.loop-j-test.true).1)
+overflow_mul-j g c = omega (arith, (room _ _ _ _ c.requires.1 c.requires.2 c.requires.3 c.requires.4 c.loop-j-test.true).1)
 
 pub overflow_mul-j-in-loop-j : goal.overflow_mul-j-in-loop-j
-overflow_mul-j-in-loop-j c = omega (arith, (room _ _ _ _ c.requires.1 c.requires.2 c.requires.3 c.requires.4 c.loop-j-test.true).1)
+overflow_mul-j-in-loop-j g c = omega (arith, (room _ _ _ _ c.requires.1 c.requires.2 c.requires.3 c.requires.4 c.loop-j-test.true).1)
 
 pub rect_at-requires : goal.rect_at-requires
-rect_at-requires c = (room _ _ _ _ c.requires.1 c.requires.2 c.requires.3 c.requires.4 c.loop-j-test.true).0
+rect_at-requires g c = (room _ _ _ _ c.requires.1 c.requires.2 c.requires.3 c.requires.4 c.loop-j-test.true).0
 
 pub row-requires : goal.row-requires
-row-requires c = (c.requires.0, omega (arith, c.requires.2, c.loop-j-test.true))
+row-requires g c = (c.requires.0, omega (arith, c.requires.2, c.loop-j-test.true))
 
-pub put_left-next-requires : goal.put_left-next-requires
-put_left-next-requires c = c.requires.0.unit
+pub put_left-requires : goal.put_left-requires
+put_left-requires g c = (search rules, c.requires.0.unit)
 
 pub loop-j-preserved : goal.loop-j-preserved
-loop-j-preserved c =
-    let a = c.args in (
-      search rules,
-      rw (← each_more (λ k. left_text a.v.unit (row_of a.v k (take 4 (drop (4 * (k * a.cols)) a.xs.now))) (get_or a.starts.now k 0)) c.loop-j.j)
-          (within (omega arith) (also c.loop-j.invariant.1 (rw (c.start_at.ensures, c.row.ensures.0, c.rect_at.ensures) at c.put_left-next.ensures))),
-    )
-
-pub shape_of-out : goal.shape_of-out
-shape_of-out c = kept c.loop-j.invariant.1
-
-pub returns : goal.returns
-returns c =
-    let e : c.loop-j.j ≡ c.args.rows = omega arith in
-    rw (← e) (within (omega (arith, c.requires.2)) c.loop-j.invariant.1)
+loop-j-preserved g c =
+    let a = c.args in
+    let kept = c.loop-j.invariant in
+    let p = rw (c.start_at.ensures, c.row.ensures.0, c.rect_at.ensures) at c.put_left.ensures in
+    let more = each_more (λ k. left_text a.v.unit (row_of a.v k (take 4 (drop (4 * (k * a.cols)) a.xs.now))) (get_or a.starts.now k 0)) c.loop-j.j in
+    record { text = rw (← more) (also _ _ _ _ kept.text p.text); size = rw (← more) (omega (arith, sizes _ _ kept.size p.size)) }

@@ -1,4 +1,4 @@
-use mathlib.Core.Path.{◌≡◌}
+use mathlib.Core.Path.{sym}
 use Prim.Native.Nat.{◌+◌, ◌*◌, ◌<◌}
 use native.Mathlib.Nat.{add-mul, mul-le-mul_right}
 use native.Mathlib.Omega.{arith}
@@ -7,32 +7,31 @@ use Rattle.drawing.specs.Picture.{tile_text}
 use Rattle.drawing.specs.View.{rect_of}
 use Rattle.rectangles.proofs.Each.{each_more}
 use Rattle.rectangles.specs.Rectangles.{each}
-use Rattle.text.proofs.Puts.{none, also, within, kept}
+use Rattle.text.proofs.Puts.{put-nil}
+use Rattle.text.proofs.Chains.{also, sizes}
 use Rattle.drawing.proofs.put_tiles.Goals as goal
 
 pub loop-j-init : goal.loop-j-init
 unfolding each
-loop-j-init c = (search rules, none _ _)
+loop-j-init g c = record { text = sym (put-nil _ _); size = omega arith }
 
-pub put_row-next-requires : goal.put_row-next-requires
-put_row-next-requires c =
+pub put_row-requires : goal.put_row-requires
+put_row-requires g c =
     let a = c.args in
     let more : c.loop-j.j < a.rows = c.loop-j-test.true in (
-      c.requires.0,
-      c.requires.1,
-      omega (arith, c.requires.2),
-      omega (arith, c.requires.3, mul-le-mul_right {m = c.loop-j.j + 1} {n = a.rows} a.cols (omega arith), add-mul c.loop-j.j 1 a.cols),
+      search rules,
+      (
+        c.requires.0,
+        c.requires.1,
+        omega (arith, c.requires.2),
+        omega (arith, c.requires.3, mul-le-mul_right {m = c.loop-j.j + 1} {n = a.rows} a.cols (omega arith), add-mul c.loop-j.j 1 a.cols),
+      ),
     )
 
 pub loop-j-preserved : goal.loop-j-preserved
-loop-j-preserved c =
+loop-j-preserved g c =
     let a = c.args in
-    (search rules, rw (← each_more (λ y. each a.cols λ x. tile_text a.v x y (y * a.cols + x) (rect_of a.xs.now a.cols x y)) c.loop-j.j) (within (omega arith) (also c.loop-j.invariant.1 c.put_row-next.ensures)))
-
-pub shape_of-out : goal.shape_of-out
-shape_of-out c = kept c.loop-j.invariant.1
-
-pub returns : goal.returns
-returns c =
-    let e : c.loop-j.j ≡ c.args.rows = omega arith in
-    rw (← e) (within (omega (arith, c.requires.2)) c.loop-j.invariant.1)
+    let kept = c.loop-j.invariant in
+    let p = c.put_row.ensures in
+    let more = each_more (λ y. each a.cols λ x. tile_text a.v x y (y * a.cols + x) (rect_of a.xs.now a.cols x y)) c.loop-j.j in
+    record { text = rw (← more) (also _ _ _ _ kept.text p.text); size = rw (← more) (omega (arith, sizes _ _ kept.size p.size)) }

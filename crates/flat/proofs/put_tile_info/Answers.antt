@@ -1,9 +1,7 @@
+use mathlib.Core.Path.{◌≡◌, sym, ap, ◌∙◌}
 use mathlib.Core.Bool.{true}
-use mathlib.Core.Path.{◌≡◌, sym, ap, subst, ◌∙◌}
-use lib.Dec.{T}
-use Rattle.getbits.proofs.Chain.{left}
 use Rattle.tile_layout.proofs.Lengths.{cols_length, rows_length}
-use Rattle.flat.specs.Layout.{Buffers, buffers, has_room, put_layout, layout_in}
+use Rattle.flat.specs.Layout.{Buffers, buffers, has_room, layout_in}
 use Rattle.flat.proofs.Room.{put_over, comes_back}
 use Rattle.flat.proofs.put_tile_info.Goals as goal
 
@@ -13,10 +11,4 @@ returns-then-has_room c =
     let b : Buffers = buffers c.args.info.now c.args.cols.now c.args.rows.now in
     let has : has_room b ≡ true = sym c.has_room.ensures ∙ c.if-has_room.true in
     let put = put_over t b has c.put_layout_bytes.ensures c.put_starts.ensures c.put_starts-then-has_room.ensures in
-    record { rows_after = put; rows_after_2 = λ h. ap layout_in put ∙ comes_back t b (cols_length t _ c.well_formed.0) (rows_length t _ c.well_formed.0) h }
-
-pub returns-else-has_room : goal.returns-else-has_room
-unfolding put_layout
-returns-else-has_room c =
-    let lacks = sym c.has_room.ensures ∙ c.if-has_room.false in
-    record { rows_after = sym (left _ _ _ lacks); rows_after_2 = λ h. absurd (subst T (sym h ∙ lacks) tt) }
+    record { is_put = put; reads_back = λ h. ap layout_in put ∙ comes_back t b (cols_length t _ c.well_formed.0) (rows_length t _ c.well_formed.0) h }

@@ -1,5 +1,6 @@
 use native.Mathlib.Omega.{arith}
 use borrow.Author.Rules.{rules}
+use lib.IntN.{ℤ}
 use Rattle.getbits.proofs.Widths.{back}
 use Rattle.flat.proofs.Rows.{both}
 use Rattle.flat_hdr.specs.Header.{flat_size}
@@ -10,4 +11,4 @@ unfolding flat_size
 returns c =
     let width = back c.args.s.max_width (search rules) in
     let height = back c.args.s.max_height (search rules) in
-    both (both c.put_bytes-at.ensures (rw width at c.put_one_signed-at.ensures) (omega (arith, c.requires))) (rw height at c.put_one_signed.ensures) (omega (arith, c.requires))
+    both c.put_bytes-at.ensures (rw (width, height) at (c.put_row.ensures.row (λ (x : ℤ). x) (λ x y h. h))) (omega (arith, c.requires))

@@ -1,32 +1,20 @@
-use mathlib.Core.Path.{sym, ◌∙◌}
-use native.Mathlib.Omega.{arith}
+use mathlib.Core.List.{List, ◌++◌}
+use mathlib.Core.Path.{sym, ap, ◌∙◌}
+use Prim.Native.Nat.{ℕ}
 use borrow.Author.Tests.{le-leb}
-use lib.IntN.{pos}
-use lib.ListN.{length, replicate, get_or-replicate, length-replicate}
+use lib.IntN.{ℤ, pos}
+use lib.ListN.{length, drop, replicate}
+use lib.Seq.{length-take-le}
 use Rattle.getbits.proofs.Chain.{taken}
-use Rattle.flat.proofs.Rows.{begun, front_turned, over_front_lem, kept}
+use Rattle.flat.proofs.Rows.{kept}
 use Rattle.flat_hdr.proofs.put_zeros.Goals as goal
 
 pub returns-then-out-lt146 : goal.returns-then-out-lt146
 returns-then-out-lt146 c = kept 146 (replicate 146 (pos 0)) c.args.out.now c.if-out-lt146.true
 
-pub loop-i-init : goal.loop-i-init
-loop-i-init c = begun _ _ _
-
-pub slice_set_of-out : goal.slice_set_of-out
-slice_set_of-out c = omega (arith, c.loop-i.invariant.long, c.if-out-lt146.false)
-
-pub loop-i-preserved : goal.loop-i-preserved
-loop-i-preserved c =
-    let o = c.args.out.now in
-    let long = length-replicate 146 (pos 0) in
-    front_turned o (replicate 146 (pos 0)) (omega (arith, long, c.if-out-lt146.false)) c.loop-i.out c.loop-i.i (pos 0) (pos 0) (omega (arith, long, c.loop-i-test.true)) (sym (get_or-replicate 146 c.loop-i.i (pos 0) (pos 0) c.loop-i-test.true)) c.loop-i.invariant
-
-pub shape_of-out : goal.shape_of-out
-shape_of-out c = c.loop-i.invariant.long
-
 pub returns : goal.returns
 returns c =
     let o = c.args.out.now in
-    over_front_lem o (replicate 146 (pos 0)) c.loop-i.out c.loop-i.i 146 (length-replicate 146 (pos 0)) c.loop-i-test.false c.loop-i.invariant
-    ∙ sym (taken _ _ _ (le-leb 146 (length o) c.if-out-lt146.false))
+    let room = c.if-out-lt146.false in
+    let zeros = c.fill.ensures.after (λ y e. e) ∙ ap (λ (n : ℕ). replicate n (pos 0)) (length-take-le 146 o room) in
+    ap (λ (l : List ℤ). l ++ drop 146 o) zeros ∙ sym (taken _ _ _ (le-leb 146 (length o) room))

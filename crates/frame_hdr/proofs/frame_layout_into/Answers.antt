@@ -1,7 +1,7 @@
 use mathlib.Core.Bool.{Bool, true, false, ◌&&◌}
 use mathlib.Core.Path.{◌≡◌, refl, sym, ◌∙◌, ap, subst}
 use mir.Facts.{to_z-of_z}
-use Rattle.getbits.specs.declared.Flag.{Flag}
+use Rattle.getbits.specs.declared.Read.{Read}
 use Rattle.getbits.proofs.Chain.{through, taken, left, both_hold}
 use Rattle.lent.proofs.Calls.{pair, first_fails, second_fails}
 use Rattle.flat.specs.Layout.{Buffers, buffers, has_room, layout_in}
@@ -26,9 +26,9 @@ asked h q e f g k = rw (← e, ← f, ← g) k
 in_buffers : (q : SeqLayout) (b : Buffers) → has_room b ≡ true → q.t ≡ layout_in b → Tiled q.t → Tiled (Held b)
 in_buffers q b r e = subst Tiled (e ∙ held b r)
 
-pub returns-then-not-has_room-clause-after_after : goal.returns-then-not-has_room-clause-after_after
+pub returns-then-not-has_room-clause-outcome : goal.returns-then-not-has_room-clause-outcome
 unfolding parse_tile_info_frmhdr_into
-returns-then-not-has_room-clause-after_after c =
+returns-then-not-has_room-clause-outcome c =
     let a = c.args in
     -- the buffers lent, and the records in them
     let own = buffers a.info.now a.cols.now a.rows.now in
@@ -38,9 +38,9 @@ returns-then-not-has_room-clause-after_after c =
     let lacks = sym c.has_room.ensures ∙ c.if-not-has_room.true in
     sym (left _ _ _ (first_fails (has_room own) (has_room theirs) lacks))
 
-pub returns-then-not-has_room-2-clause-after_after : goal.returns-then-not-has_room-2-clause-after_after
+pub returns-then-not-has_room-2-clause-outcome : goal.returns-then-not-has_room-2-clause-outcome
 unfolding parse_tile_info_frmhdr_into
-returns-then-not-has_room-2-clause-after_after c =
+returns-then-not-has_room-2-clause-outcome c =
     let a = c.args in
     -- the buffers lent, and the records in them
     let own = buffers a.info.now a.cols.now a.rows.now in
@@ -67,10 +67,10 @@ returns-then-not-sized-usable c =
     c.if-not-sized-usable.true in
     let w = what-is-left a.s.now a.p own theirs h q refl
     (rw c.unread.ensures (sym (taken _ _ _ (both_hold own_room their_room) ∙ ap (λ (z : FrameRead). frame_into z own) (left _ _ _ inside)))) refl refl in
-    record { after_after = w.0; fact = w.1.0; fact_2 = w.1.1 }
+    record { outcome = w.0; as_by_value = w.1.0; frame_layout = w.1.1 }
 
-pub reuse_allowed-allowed-requires-clause-a_value : goal.reuse_allowed-allowed-requires-clause-a_value
-reuse_allowed-allowed-requires-clause-a_value c =
+pub reuse_allowed-allowed-requires-clause-in_the_domain : goal.reuse_allowed-allowed-requires-clause-in_the_domain
+reuse_allowed-allowed-requires-clause-in_the_domain c =
     let a = c.args in
     -- the buffers lent, and the records in them
     let own = buffers a.info.now a.cols.now a.rows.now in
@@ -101,8 +101,8 @@ reuse_allowed-allowed-requires-clause-log2_cols_bound c =
     let t = in_buffers q theirs their_room refl ((known q (frame_usable h q inside)).tiled on) in
     ((usable_tiles_lem _ _ _ t.cols).small, (usable_tiles_lem _ _ _ t.rows).small)
 
-pub reused_layout-requires-clause-a_value : goal.reused_layout-requires-clause-a_value
-reused_layout-requires-clause-a_value c =
+pub reused_layout-requires-clause-in_the_domain : goal.reused_layout-requires-clause-in_the_domain
+reused_layout-requires-clause-in_the_domain c =
     let a = c.args in
     -- the buffers lent, and the records in them
     let own = buffers a.info.now a.cols.now a.rows.now in
@@ -134,7 +134,7 @@ reused_layout-requires-clause-seq_cols_value c =
     rw (c.is_set.ensures, to_z-of_z c.ranges.max_width, to_z-of_z c.ranges.max_height) at c.reuse_allowed-allowed.ensures
     ∙ allowed_in c.frame_args-a.result q theirs their_room refl (ap (λ (x : TileArgs). x.seq_code) made) in
     let only : c.reuse_allowed-allowed.result ≡ true =
-    allowed_only c.reuse_allowed-allowed.result a.s.now a.p _ (sym (ap (λ (x : Flag). x.value) c.read_reuse-reuse.ensures) ∙ c.if-reuse.true) in
+    allowed_only c.reuse_allowed-allowed.result a.s.now a.p _ (sym (ap (λ (x : Read Bool). x.value) c.read_reuse-reuse.ensures) ∙ c.if-reuse.true) in
     let tiled = in_buffers q theirs their_room refl (reused_tiled c.frame_args-a.result q (frame_usable h q inside) (sym allowed ∙ only)) in
     tiled.cols
 
@@ -156,7 +156,7 @@ reused_layout-requires-clause-seq_rows_value c =
     rw (c.is_set.ensures, to_z-of_z c.ranges.max_width, to_z-of_z c.ranges.max_height) at c.reuse_allowed-allowed.ensures
     ∙ allowed_in c.frame_args-a.result q theirs their_room refl (ap (λ (x : TileArgs). x.seq_code) made) in
     let only : c.reuse_allowed-allowed.result ≡ true =
-    allowed_only c.reuse_allowed-allowed.result a.s.now a.p _ (sym (ap (λ (x : Flag). x.value) c.read_reuse-reuse.ensures) ∙ c.if-reuse.true) in
+    allowed_only c.reuse_allowed-allowed.result a.s.now a.p _ (sym (ap (λ (x : Read Bool). x.value) c.read_reuse-reuse.ensures) ∙ c.if-reuse.true) in
     let tiled = in_buffers q theirs their_room refl (reused_tiled c.frame_args-a.result q (frame_usable h q inside) (sym allowed ∙ only)) in
     tiled.rows
 
@@ -183,10 +183,10 @@ returns-then-reuse c =
     let read = taken _ _ _ inside ∙ through _ _ made ∙ through _ _ answered ∙ taken _ _ _ c.if-reuse.true in
     let put = pair refl c.reused_layout.ensures ∙ ap (λ (z : FrameRead). frame_into z own) (sym read) in
     let w = what-is-left a.s.now a.p own theirs h q refl (put ∙ sym (taken _ _ _ (both_hold own_room their_room))) c.reused_layout.auto.cols c.reused_layout.auto.rows in
-    record { after_after = w.0; fact = w.1.0; fact_2 = w.1.1 }
+    record { outcome = w.0; as_by_value = w.1.0; frame_layout = w.1.1 }
 
-pub fresh_layout-requires-clause-a_value : goal.fresh_layout-requires-clause-a_value
-fresh_layout-requires-clause-a_value c =
+pub fresh_layout-requires-clause-in_the_domain : goal.fresh_layout-requires-clause-in_the_domain
+fresh_layout-requires-clause-in_the_domain c =
     let a = c.args in
     -- the buffers lent, and the records in them
     let own = buffers a.info.now a.cols.now a.rows.now in
@@ -223,4 +223,4 @@ returns c =
     let read = taken _ _ _ inside ∙ through _ _ made ∙ through _ _ answered ∙ left _ _ _ c.if-reuse.false in
     let put = fresh_into a.s.now c.read_reuse-reuse.result.next h c.frame_args-a.result own refl _ _ c.fresh_layout.ensures ∙ ap (λ (z : FrameRead). frame_into z own) (sym read) in
     let w = what-is-left a.s.now a.p own theirs h q refl (put ∙ sym (taken _ _ _ (both_hold own_room their_room))) c.fresh_layout.auto.cols c.fresh_layout.auto.rows in
-    record { after_after = w.0; fact = w.1.0; fact_2 = w.1.1 }
+    record { outcome = w.0; as_by_value = w.1.0; frame_layout = w.1.1 }

@@ -34,31 +34,31 @@ module _ (z : TileRead) (b : Buffers) (old code : ℕ) {o : TileOutcome} {after 
 
 pub overflow_cast-a : goal.overflow_cast-a
 overflow_cast-a c =
-    let small : c.args.a.multiplier < 2 ^ 31 = lt_of_le_of_lt (low_multiplier c.args.a (domain c.args.a c.requires.a_value)) (lit< tt) in
+    let small : c.args.a.multiplier < 2 ^ 31 = lt_of_le_of_lt (low_multiplier c.args.a (domain c.args.a c.requires.in_the_domain)) (lit< tt) in
     record { sfits = small }
 
 pub returns-then-is_refusal : goal.returns-then-is_refusal
 unfolding parse_tile_info_into
 returns-then-is_refusal c =
     let a = c.args in
-    let small : a.a.multiplier < 2 ^ 31 = lt_of_le_of_lt (low_multiplier a.a (domain a.a c.requires.a_value)) (lit< tt) in
+    let small : a.a.multiplier < 2 ^ 31 = lt_of_le_of_lt (low_multiplier a.a (domain a.a c.requires.in_the_domain)) (lit< tt) in
     let args : args_of (to_z w32 a.a.multiplier) a.a.frame_code a.a.seq_code a.width a.height a.a.level a.a.tier ≡ a.a =
     rw (to_z_pos w32 a.a.multiplier small, ← c.requires.width_value.0, ← c.requires.width_value.1) refl in
     -- the buffers lent
     let given = buffers a.info.now a.cols.now a.rows.now in
     let fresh = parse_tile_info a.s.now a.p (layout_in given) a.a in
-    let into = simp (to_z-of_z c.ranges.width, to_z-of_z c.ranges.height, args) at c.parse_tile_info_into-r.ensures.after_after in
-    coded fresh given a.sb128 a.a.frame_code (into ∙ taken _ _ _ c.requires.rows_value) a.sb128 c.is_refusal.ensures c.if-is_refusal.true refl
+    let into = simp (to_z-of_z c.ranges.width, to_z-of_z c.ranges.height, args) at c.parse_tile_info_into-r.ensures.outcome in
+    coded fresh given a.sb128 a.a.frame_code (into ∙ taken _ _ _ c.requires.room) a.sb128 c.is_refusal.ensures c.if-is_refusal.true refl
 
 pub returns : goal.returns
 unfolding parse_tile_info_into
 returns c =
     let a = c.args in
-    let small : a.a.multiplier < 2 ^ 31 = lt_of_le_of_lt (low_multiplier a.a (domain a.a c.requires.a_value)) (lit< tt) in
+    let small : a.a.multiplier < 2 ^ 31 = lt_of_le_of_lt (low_multiplier a.a (domain a.a c.requires.in_the_domain)) (lit< tt) in
     let args : args_of (to_z w32 a.a.multiplier) a.a.frame_code a.a.seq_code a.width a.height a.a.level a.a.tier ≡ a.a =
     rw (to_z_pos w32 a.a.multiplier small, ← c.requires.width_value.0, ← c.requires.width_value.1) refl in
     -- the buffers lent
     let given = buffers a.info.now a.cols.now a.rows.now in
     let fresh = parse_tile_info a.s.now a.p (layout_in given) a.a in
-    let into = simp (to_z-of_z c.ranges.width, to_z-of_z c.ranges.height, args) at c.parse_tile_info_into-r.ensures.after_after in
-    coded fresh given a.sb128 a.a.frame_code (into ∙ taken _ _ _ c.requires.rows_value) a.a.frame_code c.is_refusal.ensures c.if-is_refusal.false refl
+    let into = simp (to_z-of_z c.ranges.width, to_z-of_z c.ranges.height, args) at c.parse_tile_info_into-r.ensures.outcome in
+    coded fresh given a.sb128 a.a.frame_code (into ∙ taken _ _ _ c.requires.room) a.a.frame_code c.is_refusal.ensures c.if-is_refusal.false refl

@@ -1,5 +1,4 @@
 use mathlib.Core.Path.{sym, ◌∙◌}
-use borrow.Author.Tests.{not-true, not-false}
 use Rattle.getbits.proofs.Chain.{through, taken, left}
 use Rattle.frame_request.specs.Request.{sequence_args}
 use Rattle.frame_request.proofs.sequence_args.Goals as goal

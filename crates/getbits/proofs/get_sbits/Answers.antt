@@ -5,12 +5,11 @@ use lib.Dec.{T}
 use lib.Signed.{non_neg}
 use mir.Facts.{to_z-of_z}
 use Rattle.getbits.proofs.Widths.{nat_abs_fits, back, sign_zero, bits_known}
-use Rattle.getbits.specs.declared.Signed.{Signed}
-use Rattle.getbits.specs.declared.Number.{Number}
+use Rattle.getbits.specs.declared.Read.{Read}
 use Rattle.getbits.specs.Bits.{get_sbits, signed_of}
 use Rattle.getbits.proofs.get_sbits.Goals as goal
 
-abbrev signed : ℕ → Number → Signed
+abbrev signed : ℕ → Read ℕ → Read ℤ
 signed n r = record { value = signed_of n r.value; next = r.next }
 
 -- a number other than 0 came from a width that is right

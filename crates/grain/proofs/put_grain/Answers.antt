@@ -7,7 +7,7 @@ use Rattle.grain.proofs.put_grain.Goals as goal
 
 pub returns : goal.returns
 unfolding grain_text planes_line lines word
-returns c =
+returns g c =
     let fgd = c.args.fgd in
     let numbers : c.widened-xs.result ≡ flat_film_grain fgd = c.widened-xs.ensures ∙ c.put_film_grain.ensures.out_after ∙ append-nil (flat_film_grain fgd) in
-    rw (← numbers) c.put_filled.ensures
+    rw (← numbers) c.push_filled.ensures

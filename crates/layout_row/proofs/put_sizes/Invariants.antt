@@ -1,10 +1,6 @@
-use Prim.Native.Nat.{◌-◌}
 use Rattle.layout_row.specs.Inner.{size_at}
 use Rattle.layout_row.proofs.Walk.{Going}
 use Rattle.layout_row.proofs.put_sizes.Given as goal
 
 abbrev pub invariant-loop-i : goal.invariant-loop-i
-invariant-loop-i l = Going (size_at l.starts) l.initial.rest.0 l.limit.0 l.tiles l.initial.row l.at l.row l.end l.rest.0 l.i
-
-abbrev pub decreases-loop-i : goal.decreases-loop-i
-decreases-loop-i l = l.tiles - l.i
+invariant-loop-i l = Going (size_at l.starts) l.initial.rest.0 l.bounds.limit.0 l.tiles l.initial.row l.at l.row l.end l.rest.0 l.i

@@ -1,10 +1,6 @@
-use Prim.Native.Nat.{◌-◌}
 use Rattle.layout_row.specs.Inner.{size_at}
 use Rattle.layout_row.proofs.Walk.{Widest}
 use Rattle.layout_row.proofs.widest_of.Given as goal
 
 abbrev pub invariant-loop-i : goal.invariant-loop-i
 invariant-loop-i l = Widest (size_at l.starts) l.tiles l.most.0 l.i
-
-abbrev pub decreases-loop-i : goal.decreases-loop-i
-decreases-loop-i l = l.tiles - l.i

@@ -9,7 +9,7 @@ use Rattle.rectangles.proofs.put_row.Goals as goal
 
 pub loop-col-init : goal.loop-col-init
 unfolding each
-loop-col-init c = (omega arith, refl)
+loop-col-init c = refl
 
 pub span_of-across-requires : goal.span_of-across-requires
 span_of-across-requires c =
@@ -21,7 +21,5 @@ loop-col-preserved c =
     let a = c.args in
     -- the tile of each column
     let tile : ℕ → List ℕ = λ i. edge a.starts.now a.side a.w i ∷ a.down.begin ∷ reach a.starts.now a.side a.w i ∷ a.down.reach ∷ [] in
-    let across = c.span_of-across.ensures in (
-      omega arith,
-      store_more tile 4 (λ _. refl) c.loop-col.col a.at _ a.out.now c.loop-col.out _ refl c.loop-col.invariant.1 (rw (across.0, across.1) at c.put_rectangle.ensures),
-    )
+    let across = c.span_of-across.ensures in
+    store_more tile 4 (λ _. refl) c.loop-col.col a.at _ a.out.now c.loop-col.out _ refl c.loop-col.invariant (rw (across.0, across.1) at c.put_rectangle.ensures)

@@ -1,13 +1,9 @@
 use mathlib.Core.List.{[], ◌∷◌}
 use mathlib.Core.Path.{◌≡◌}
-use Prim.Native.Nat.{◌-◌, ◌≤◌}
 use lib.Seq.{sets}
 use Rattle.rectangles.specs.Rectangles.{edge, reach, each}
 use Rattle.rectangles.proofs.put_row.Given as goal
 
 abbrev pub invariant-loop-col : goal.invariant-loop-col
 invariant-loop-col l =
-    (l.col ≤ l.cols) × (l.out ≡ sets l.initial.out l.at (each l.col λ i. edge l.starts l.side l.w i ∷ l.down.begin ∷ reach l.starts l.side l.w i ∷ l.down.reach ∷ []))
-
-abbrev pub decreases-loop-col : goal.decreases-loop-col
-decreases-loop-col l = l.cols - l.col
+    l.out ≡ sets l.initial.out l.at (each l.col λ i. edge l.starts l.side l.w i ∷ l.down.begin ∷ reach l.starts l.side l.w i ∷ l.down.reach ∷ [])

@@ -29,7 +29,7 @@ side_of-side-requires c = let a = c.args in (described a.t a.sb128 a.w a.h c.req
 
 pub loop-row-init : goal.loop-row-init
 unfolding each
-loop-row-init c = (omega arith, refl)
+loop-row-init c = refl
 
 pub span_of-down-requires : goal.span_of-down-requires
 span_of-down-requires c =
@@ -48,11 +48,9 @@ pub loop-row-preserved : goal.loop-row-preserved
 loop-row-preserved c =
     let a = c.args in
     let side = c.side_of-side.result in
-    let down = c.span_of-down.ensures in (
-      omega arith,
-      store_more (tiles a.t side a.w a.h) (4 * a.t.cols) (tiles_long a.t side a.w a.h) c.loop-row.row 0 _ a.out.now c.loop-row.out _ (omega arith) c.loop-row.invariant.1
-          (rw (down.0, down.1) at c.put_row.ensures),
-    )
+    let down = c.span_of-down.ensures in
+    store_more (tiles a.t side a.w a.h) (4 * a.t.cols) (tiles_long a.t side a.w a.h) c.loop-row.row 0 _ a.out.now c.loop-row.out _ (omega arith) c.loop-row.invariant
+    (rw (down.0, down.1) at c.put_row.ensures)
 
 pub returns : goal.returns
 unfolding rectangles
@@ -62,7 +60,7 @@ returns c =
     let e : c.loop-row.row ≡ a.t.rows = omega arith in
     let all = each a.t.rows f in
     let long : length all ≡ rectangle_numbers a.t = each_length f (4 * a.t.cols) (tiles_long a.t c.side_of-side.result a.w a.h) a.t.rows ∙ mul_assoc 4 a.t.cols a.t.rows in
-    c.loop-row.invariant.1
+    c.loop-row.invariant
     ∙ ap (λ (n : ℕ). sets a.out.now 0 (each n f)) e
     ∙ sets-eq all a.out.now 0 (omega (arith, long, c.requires.1))
     ∙ ap (λ (n : ℕ). all ++ drop n a.out.now) (zero-add (length all) ∙ long)

@@ -1,6 +1,6 @@
 use mathlib.Core.List.{List, [], ◌∷◌}
 use mathlib.Core.Path.{◌≡◌}
-use Prim.Native.Nat.{ℕ, ◌-◌, ◌≤◌}
+use Prim.Native.Nat.{ℕ}
 use lib.Seq.{sets}
 use Rattle.rectangles.specs.Rectangles.{edge, reach, each}
 use Rattle.rectangles.proofs.put_rows.Given as goal
@@ -12,7 +12,4 @@ across col-start-sb row-start-sb side w h cols row =
 
 abbrev pub invariant-loop-row : goal.invariant-loop-row
 invariant-loop-row l =
-    (l.row ≤ l.rows) × (l.out ≡ sets l.initial.out 0 (each l.row (across l.col_start_sb l.row_start_sb l.side l.w l.h l.cols)))
-
-abbrev pub decreases-loop-row : goal.decreases-loop-row
-decreases-loop-row l = l.rows - l.row
+    l.out ≡ sets l.initial.out 0 (each l.row (across l.t.col_start_sb l.t.row_start_sb l.side l.w l.h l.t.cols))

@@ -1,11 +1,10 @@
-use Prim.Native.Nat.{◌-◌, ◌*◌, ◌≤◌}
-use lib.ListN.{take, drop}
-use Rattle.text.specs.Text.{Put, row, line}
+use Rattle.std.proofs.Common.{◌≡◌, ◌*◌, ◌≤◌, length, take, drop}
 use Rattle.rectangles.specs.Rectangles.{each}
+use Rattle.text.specs.Text.{put, row, line}
 use Rattle.rects.proofs.put_tiles.Given as goal
 
 abbrev pub invariant-loop-k : goal.invariant-loop-k
-invariant-loop-k l = (l.k ≤ l.n) × Put (84 * l.k) l.initial.out l.at (each l.k λ i. line (row (take 4 (drop (4 * i) l.xs)))) l.out l.next
-
-abbrev pub decreases-loop-k : goal.decreases-loop-k
-decreases-loop-k l = l.n - l.k
+invariant-loop-k g l = record {
+  text : l.out ≡ put g.row.N l.initial.out (each l.k λ i. line (row (take 4 (drop (4 * i) l.xs))));
+  size : length (each l.k λ i. line (row (take 4 (drop (4 * i) l.xs)))) ≤ 84 * l.k;
+}

@@ -47,15 +47,15 @@ module _ (s : List ℕ) (p : Place) (x : ℕ) (e : x ≡ bits_at s (position s p
   a_delta = sym (through _ _ (sym ten))
 
   module _ (n : ℕ) (seg : SegmentationDataSet) where
-    unset : x < 4096 → segment s n (record { seg = seg; next = p })
-        ≡ record { seg = with_features (record { changed = false; delta = pos 0; skip = eqb (x / 2048 % 2) 1; globalmv = eqb (x / 1024 % 2) 1 }) n seg; next = at 3 }
+    unset : x < 4096 → segment s n (record { value = seg; next = p })
+        ≡ record { value = with_features (record { changed = false; delta = pos 0; skip = eqb (x / 2048 % 2) 1; globalmv = eqb (x / 1024 % 2) 1 }) n seg; next = at 3 }
     unset h =
         let none : x / 4096 ≡ 0 = omega arith in
         let f : record { value = false; next = at 1 } ≡ get_flag s p = sym (first ∙ rw none) in
         from_readings s n seg p (record { value = false; next = at 1 }) (record { value = pos 0; next = at 1 }) _ _ f no_delta (sym (flag 1 11 refl)) (sym (flag 2 10 refl))
 
-    set : 4096 ≤ x → segment s n (record { seg = seg; next = p })
-        ≡ record { seg = with_features (record { changed = true; delta = clamped (signed_of 10 (x / 4 % 1024)); skip = eqb (x / 2 % 2) 1; globalmv = eqb (x % 2) 1 }) n seg; next = at 13 }
+    set : 4096 ≤ x → segment s n (record { value = seg; next = p })
+        ≡ record { value = with_features (record { changed = true; delta = clamped (signed_of 10 (x / 4 % 1024)); skip = eqb (x / 2 % 2) 1; globalmv = eqb (x % 2) 1 }) n seg; next = at 13 }
     set h =
         let one : x / 4096 ≡ 1 = omega (arith, e, bits_lt s (position s p) 13) in
         let f : record { value = true; next = at 1 } ≡ get_flag s p = sym (first ∙ rw one) in

@@ -8,4 +8,4 @@ pub returns : goal.returns
 unfolding parse_seg_info
 returns c =
     let a = c.args in
-    c.read_segments-r.ensures ∙ ap (λ (m : ℕ). turns m (segment a.s.now) (record { seg = a.seg; next = a.p })) c.segments.ensures.0
+    c.read_segments-r.ensures ∙ ap (λ (m : ℕ). turns m (segment a.s.now) (record { value = a.seg; next = a.p })) c.segments.ensures.0

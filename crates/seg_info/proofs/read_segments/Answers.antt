@@ -9,7 +9,8 @@ use Rattle.getbits.proofs.Chain.{both, turns_more}
 use Rattle.getbits.proofs.Parts.{more_there}
 use Rattle.seg_info.specs.Inner.{lent_read}
 use Rattle.seg_info.specs.Seg.{segment}
-use Rattle.seg_info.specs.declared.SegRead.{SegRead}
+use Rattle.getbits.specs.declared.Read.{Read}
+use Rattle.seg_info.specs.declared.SegmentationDataSet.{SegmentationDataSet}
 use Rattle.seg_info.proofs.read_segments.Goals as goal
 use Rattle.seg_info.proofs.read_segments.Goals.{Then-i-n}
 
@@ -22,7 +23,7 @@ two_left c =
     (leb-true (c.loop-i.i + 2) a.n t.0, more_there a.s.now c.loop-i.a.next 56 c.more_than.ensures t.1)
 
 -- two turns more
-two_more : (n : ℕ) (f : ℕ → SegRead → SegRead) (a : SegRead) → turns (n + 2) f a ≡ f (n + 1) (f n (turns n f a))
+two_more : (n : ℕ) (f : ℕ → Read SegmentationDataSet → Read SegmentationDataSet) (a : Read SegmentationDataSet) → turns (n + 2) f a ≡ f (n + 1) (f n (turns n f a))
 two_more n f a =
     let e : n + 2 ≡ n + 1 + 1 = omega arith in
     ap (λ (m : ℕ). turns m f a) e ∙ turns_more (n + 1) f a ∙ ap (f (n + 1)) (turns_more n f a)
@@ -48,7 +49,7 @@ loop-i-preserved-then-i-n c =
     let i = c.loop-i.i in (
       (two_left (goal.at.loop-i-preserved-then-i-n c).Then-i-n).0,
       omega (arith, c.loop-i.invariant.1),
-      c.two_segments-a.ensures ∙ ap (λ (x : SegRead). f (i + 1) (f i x)) c.loop-i.invariant.2 ∙ sym (two_more i f _),
+      c.two_segments-a.ensures ∙ ap (λ (x : Read SegmentationDataSet). f (i + 1) (f i x)) c.loop-i.invariant.2 ∙ sym (two_more i f _),
     )
 
 pub read_segment-a-requires : goal.read_segment-a-requires

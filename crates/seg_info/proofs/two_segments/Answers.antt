@@ -18,7 +18,7 @@ two : (s : List ℕ) (p q : Place) (n w u v : ℕ) (a b : Features) (seg seg1 se
     → position s p + 32 ≤ bit_count s → w ≡ bits_at s (position s p) 32 → FeaturesOf (w / 2 ^ 19) a → FeaturesOf (w * 2 ^ u % 2 ^ 32 / 2 ^ 19) b
     → (u ≡ segment_bits a.changed) × (u ≤ 13) → (v ≡ segment_bits b.changed) × (v ≤ 13)
     → seg1 ≡ with_features a n seg → seg2 ≡ with_features b (n + 1) seg1 → q ≡ (read_bits s p (u + v)).next
-    → record { seg = seg2; next = q } ≡ segment s (n + 1) (segment s n (record { seg = seg; next = p }))
+    → record { value = seg2; next = q } ≡ segment s (n + 1) (segment s n (record { value = seg; next = p }))
 two s p q n w u v a b seg seg1 seg2 room e fa fb eu ev e1 e2 eq =
     let p1 = place_at (position s p + u) p.error in
     let at : position s p1 ≡ position s p + u = pos_at s (position s p + u) p.error (omega (arith, eu.1)) in
@@ -36,6 +36,6 @@ returns c =
     let a = c.args in
     two a.s.now a.r.next c.skip-next.result a.n c.look_ahead-word.result c.segment_bits-used.result c.segment_bits.result
     c.features_of-a.result c.features_of-b.result
-    (lent_seg a.delta_q.now a.r.masks) _ _
+    (lent_seg a.delta_q.now a.r.value) _ _
     c.requires.2 (look_bits a.s.now a.r.next 32 (omega arith) c.look_ahead-word.ensures) c.features_of-a.ensures c.features_of-b.ensures
     c.segment_bits-used.ensures c.segment_bits.ensures c.put-first.ensures c.put-masks.ensures c.skip-next.ensures

@@ -30,7 +30,7 @@ returns-then-is_refusal c =
 
 pub read_rest-rest-requires : goal.read_rest-rest-requires
 unfolding put_layout
-read_rest-rest-requires c = record { rows_value = refl; rows_value_2 = refl }
+read_rest-rest-requires c = record { room = refl; zero_layout = refl }
 
 pub returns-then-is_refusal-2 : goal.returns-then-is_refusal-2
 returns-then-is_refusal-2 c =
@@ -47,7 +47,7 @@ returns c =
     let a = c.args in
     let x = c.read_head-head.result in
     let y = c.read_rest-rest.result in
-    let t : TileInfo = (read_tiling x.hdr.blocks.partition.sb128 x.hdr.picture.size x.hdr.level a.s.now x.next).fields.t in
+    let t : TileInfo = (read_tiling x.hdr.blocks.partition.sb128 x.hdr.picture.size x.hdr.level a.s.now x.next).value.t in
     let fine = sym c.is_refusal-2.ensures ∙ c.if-is_refusal-2.false in
     let same = c.tile_info_of-t.ensures ∙ came_back t _ _ refl (c.read_rest-rest.ensures.1 ∙ left _ _ _ fine) c.read_rest-rest.auto.cols c.read_rest-rest.auto.rows in
     let w = promised a.s.now a.p a.strict

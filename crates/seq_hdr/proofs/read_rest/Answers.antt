@@ -13,7 +13,7 @@ use Rattle.seq_hdr.proofs.read_rest.Goals.{After-check_end-end}
 -- up to the last questions, which a refusal there and an accepted header share
 to_end : (e : After-check_end-end) (hdr : SequenceHeader) → let a = e.args in
     read_rest a.strict a.sb128 a.size a.level hdr a.s.now a.p
-    ≡ ended_header e.check_end-end.result (with_tiling hdr (record { present = e.read_tiling-tiling.result.present; t = (read_tiling a.sb128 a.size a.level a.s.now a.p).fields.t }) e.get_flag-grain.result.value)
+    ≡ ended_header e.check_end-end.result (with_tiling hdr (record { present = e.read_tiling-tiling.result.present; t = (read_tiling a.sb128 a.size a.level a.s.now a.p).value.t }) e.get_flag-grain.result.value)
 to_end e hdr =
     let p = e.get_flag-grain.result.next in
     through _ _ e.read_tiling-tiling.ensures.is
@@ -29,12 +29,12 @@ returns-then-is_refusal c =
     (λ hdr. through _ _ t.is ∙ taken _ _ _ refusal, t.put ∙ taken _ _ _ refusal)
 
 pub clear_layout-requires : goal.clear_layout-requires
-clear_layout-requires c = let t = c.read_tiling-tiling.auto in rw (t.info, t.cols, t.rows) c.requires.rows_value
+clear_layout-requires c = let t = c.read_tiling-tiling.auto in rw (t.info, t.cols, t.rows) c.requires.room
 
 pub returns-then-is_refusal-2 : goal.returns-then-is_refusal-2
 returns-then-is_refusal-2 c =
     let refusal = sym c.is_refusal-2.ensures ∙ c.if-is_refusal-2.true in
-    (to_end (goal.at.returns-then-is_refusal-2 c).After-check_end-end, c.clear_layout.ensures ∙ c.read_tiling-tiling.ensures.behind ∙ c.requires.rows_value_2 ∙ sym (taken _ _ _ refusal))
+    (to_end (goal.at.returns-then-is_refusal-2 c).After-check_end-end, c.clear_layout.ensures ∙ c.read_tiling-tiling.ensures.behind ∙ c.requires.zero_layout ∙ sym (taken _ _ _ refusal))
 
 pub returns-else-is_refusal-2 : goal.returns-else-is_refusal-2
 returns-else-is_refusal-2 c =

@@ -62,7 +62,7 @@ pub returns-then-not-has_room : goal.returns-then-not-has_room
 unfolding parse_seq_hdr_into
 returns-then-not-has_room c =
     let lacks = sym c.has_room.ensures ∙ c.if-not-has_room.true in
-    record { after_after = sym (left _ _ _ lacks); fact = λ h. contrary h lacks; fact_2 = λ h. contrary h lacks }
+    record { outcome = sym (left _ _ _ lacks); layout_put = λ h. contrary h lacks; header_tiling = λ h. contrary h lacks }
 
 pub clear_layout-requires : goal.clear_layout-requires
 clear_layout-requires c = sym c.has_room.ensures ∙ c.if-not-has_room.false
@@ -79,7 +79,7 @@ returns-then-is_refusal c =
     (head_ends a.s.now a.p a.strict r.ensures.is refusal ∙ as_refused a.s.now a.p a.strict r.ensures.is refusal)
     (c.put_zeros.ensures ∙ r.ensures.numbers.behind (replicate 146 (pos 0)))
     c.clear_layout.ensures in
-    record { after_after = w.0; fact = w.1.0; fact_2 = w.1.1 }
+    record { outcome = w.0; layout_put = w.1.0; header_tiling = w.1.1 }
 
 pub read_rest-rest-requires : goal.read_rest-rest-requires
 read_rest-rest-requires c =
@@ -89,7 +89,7 @@ read_rest-rest-requires c =
     let e = c.clear_layout.ensures in
     let cols = c.clear_layout.auto.cols in
     let rows = c.clear_layout.auto.rows in
-    record { rows_value = room-still no_tile_info b _ has e cols rows; rows_value_2 = goes_over no_tile_info b _ has e cols rows no_tile_info ∙ sym e }
+    record { room = room-still no_tile_info b _ has e cols rows; zero_layout = goes_over no_tile_info b _ has e cols rows no_tile_info ∙ sym e }
 
 pub returns-then-is_refusal-2 : goal.returns-then-is_refusal-2
 returns-then-is_refusal-2 c =
@@ -104,7 +104,7 @@ returns-then-is_refusal-2 c =
     (head_goes_on a.s.now a.p a.strict r.ensures.is (sym c.is_refusal.ensures ∙ c.if-is_refusal.false) ∙ k.ensures.0 r.result.hdr ∙ taken _ _ _ refusal)
     (c.put_zeros-then-is_refusal-2.ensures ∙ r.ensures.numbers.behind (replicate 146 (pos 0)))
     (k.ensures.1 ∙ taken _ _ _ refusal ∙ c.clear_layout.ensures) in
-    record { after_after = w.0; fact = w.1.0; fact_2 = w.1.1 }
+    record { outcome = w.0; layout_put = w.1.0; header_tiling = w.1.1 }
 
 pub returns : goal.returns
 unfolding flat_seq_hdr
@@ -121,10 +121,10 @@ returns c =
     let accepted = sym c.is_refusal.ensures ∙ c.if-is_refusal.false in
     let fine = sym c.is_refusal-2.ensures ∙ c.if-is_refusal-2.false in
     -- the layout that was read
-    let t : TileInfo = (read_tiling x.hdr.blocks.partition.sb128 x.hdr.picture.size x.hdr.level a.s.now x.next).fields.t in
+    let t : TileInfo = (read_tiling x.hdr.blocks.partition.sb128 x.hdr.picture.size x.hdr.level a.s.now x.next).value.t in
     let z : SeqRead = record { answer = y.answer; hdr = with_tiling x.hdr (record { present = y.present; t = t }) y.film_grain_present; next = y.next } in
     let w = whole a.s.now a.p a.strict a.out.now b has z (k.auto.cols ∙ cols) (k.auto.rows ∙ rows)
     (head_goes_on a.s.now a.p a.strict r.ensures.is accepted ∙ k.ensures.0 x.hdr ∙ left _ _ _ fine)
     (all_put (and_then (r.ensures.numbers.stands accepted) c.put_last.ensures (omega arith)))
     (k.ensures.1 ∙ left _ _ _ fine ∙ goes_over no_tile_info b _ has c.clear_layout.ensures cols rows t) in
-    record { after_after = w.0; fact = w.1.0; fact_2 = w.1.1 }
+    record { outcome = w.0; layout_put = w.1.0; header_tiling = w.1.1 }

@@ -1,3 +1,4 @@
+use Rattle.std.proofs.Common.{Bool}
 use mathlib.Core.Bool.{true, false}
 use mathlib.Core.List.{List}
 use mathlib.Core.Path.{◌≡◌, refl, sym, ap, ◌∙◌}
@@ -9,7 +10,7 @@ use mir.Val.{to_z, of_z}
 use Rattle.answers.specs.declared.Answer.TheVariants.{Accepted}
 use Rattle.getbits.specs.Bits.{get_flag, flag_if}
 use Rattle.getbits.specs.Chain.{pick}
-use Rattle.getbits.specs.declared.Flag.{Flag}
+use Rattle.getbits.specs.declared.Read.{Read}
 use Rattle.getbits.specs.declared.Place.{Place}
 use Rattle.getbits.proofs.Chain.{through, taken}
 use Rattle.seq_fields.specs.declared.AdaptiveBoolean.TheVariants.{Off, On, Adaptive}
@@ -27,13 +28,13 @@ use Rattle.seq_hdr.proofs.Into.{tiling-into}
 use Rattle.seq_hdr.proofs.read_tiling.Goals as goal
 
 -- a tiling without a layout, and one with the layout z
-module _ (sb128 : ℕ) (size : FrameSize) (level : Level) (s : List ℕ) (p : Place) {present : Flag} (e : present ≡ get_flag s p) where
-  without : present.value ≡ false → read_tiling sb128 size level s p ≡ record { answer = Accepted; fields = record { present = Off; t = no_tile_info }; next = present.next }
+module _ (sb128 : ℕ) (size : FrameSize) (level : Level) (s : List ℕ) (p : Place) {present : Read Bool} (e : present ≡ get_flag s p) where
+  without : present.value ≡ false → read_tiling sb128 size level s p ≡ record { answer = Accepted; value = record { present = Off; t = no_tile_info }; next = present.next }
   unfolding read_tiling flag_if tile_info_if
   without v = through _ _ e ∙ rw v (through _ _ refl ∙ through _ _ refl)
 
-  with_layout_lem : {adaptive : Flag} → present.value ≡ true → adaptive ≡ get_flag s present.next → let z = parse_tile_info s adaptive.next no_tile_info (tiling_args sb128 size level) in
-      read_tiling sb128 size level s p ≡ record { answer = z.answer; fields = record { present = pick adaptive.value Adaptive On; t = z.info }; next = z.next }
+  with_layout_lem : {adaptive : Read Bool} → present.value ≡ true → adaptive ≡ get_flag s present.next → let z = parse_tile_info s adaptive.next no_tile_info (tiling_args sb128 size level) in
+      read_tiling sb128 size level s p ≡ record { answer = z.answer; value = record { present = pick adaptive.value Adaptive On; t = z.info }; next = z.next }
   unfolding read_tiling flag_if tile_info_if
   with_layout_lem v f = through _ _ e ∙ rw v (through _ _ f ∙ through _ _ refl)
 
@@ -48,7 +49,7 @@ pub returns-then-not-present : goal.returns-then-not-present
 returns-then-not-present c =
     let a = c.args in
     let e = without a.sb128 a.size a.level a.s.now a.p c.get_flag-present.ensures (not-true _ c.if-not-present.true) in
-    record { is = rw e refl; put = rw e (sym c.requires.rows_value_2); behind = refl }
+    record { is = rw e refl; put = rw e (sym c.requires.zero_layout); behind = refl }
 
 pub returns : goal.returns
 returns c =
@@ -59,7 +60,7 @@ returns c =
     -- the lengths, read back from their bits
     let width : to_z w32 (of_z w32 a.size.max_width) ≡ a.size.max_width = search rules in
     let height : to_z w32 (of_z w32 a.size.max_height) ≡ a.size.max_height = search rules in
-    tiling-into (parse_tile_info a.s.now q no_tile_info args) b c.requires.rows_value
-    ((rw (width, height) at c.parse_tile_info_into-r.ensures.after_after) ∙ over_none a.s.now q args b c.requires.rows_value c.requires.rows_value_2)
+    tiling-into (parse_tile_info a.s.now q no_tile_info args) b c.requires.room
+    ((rw (width, height) at c.parse_tile_info_into-r.ensures.outcome) ∙ over_none a.s.now q args b c.requires.room c.requires.zero_layout)
     c.parse_tile_info_into-r.auto.cols c.parse_tile_info_into-r.auto.rows c.adaptive_or-present.ensures
     (with_layout_lem a.sb128 a.size a.level a.s.now a.p c.get_flag-present.ensures (not-false _ c.if-not-present.false) c.get_flag-adaptive.ensures)

@@ -16,4 +16,4 @@ returns c =
     ∙ through _ _ c.flag_if-mvs.ensures
     ∙ through _ _ c.small_if-mvs_mode.ensures.is
     ∙ through _ _ c.small_if-hint_bits.ensures.is
-    ∙ sym (simp (c.motion_modes-motion_modes.ensures, c.order_hint_bits-order_hint_n_bits.ensures)))
+    ∙ sym (simp (c.motion_modes.ensures, c.order_hint_bits.ensures)))

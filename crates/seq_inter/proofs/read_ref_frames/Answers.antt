@@ -13,4 +13,4 @@ returns c =
     ∙ through _ _ c.flag_if-sent.ensures
     ∙ through _ _ c.small_if-count.ensures.is
     ∙ through _ _ c.ref_frames-frames.ensures.0
-    ∙ sym (simp (c.drl_reorder-drl_reorder.ensures, c.ref_frames_log2-ref_frames_log2.ensures)))
+    ∙ sym (simp (c.drl_reorder.ensures, c.ref_frames_log2.ensures)))

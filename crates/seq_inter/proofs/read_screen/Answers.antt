@@ -11,4 +11,4 @@ returns c =
     ∙ through _ _ refl
     ∙ through _ _ c.flag_if-mv_select.ensures
     ∙ through _ _ c.flag_if-mv_on.ensures
-    ∙ sym (simp (c.adaptive_or-screen_content_tools.ensures, c.adaptive_or-force_integer_mv.ensures)))
+    ∙ sym (simp (c.adaptive_or.ensures, c.adaptive_or-2.ensures)))

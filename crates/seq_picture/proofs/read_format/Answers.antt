@@ -8,4 +8,4 @@ unfolding read_format
 returns c =
     sym (through _ _ c.layout_of-layout.ensures
     ∙ through _ _ c.get_vlc-depth.ensures
-    ∙ sym (simp (c.ss_hor-ss_hor.ensures, c.ss_ver-ss_ver.ensures, c.hbd_of-hbd.ensures)))
+    ∙ sym (simp (c.ss_hor.ensures, c.ss_ver.ensures, c.hbd_of.ensures)))

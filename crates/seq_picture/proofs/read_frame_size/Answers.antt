@@ -7,10 +7,10 @@ use Rattle.seq_picture.specs.Picture.{read_frame_size}
 use Rattle.seq_picture.proofs.read_frame_size.Goals as goal
 
 -- the lengths, read back from their bits
-width : (c : goal.After-struct_told-2-1) → to_z w32 (of_z w32 c.read_length-width.result.value) ≡ c.read_length-width.result.value
+width : (c : goal.After-result-1) → to_z w32 (of_z w32 c.read_length-width.result.value) ≡ c.read_length-width.result.value
 width c = search rules
 
-height : (c : goal.After-struct_told-2-1) → to_z w32 (of_z w32 c.read_length-height.result.value) ≡ c.read_length-height.result.value
+height : (c : goal.After-result-1) → to_z w32 (of_z w32 c.read_length-height.result.value) ≡ c.read_length-height.result.value
 height c = search rules
 
 pub returns : goal.returns

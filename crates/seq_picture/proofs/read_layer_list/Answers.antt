@@ -10,9 +10,6 @@ pub loop-n-init : goal.loop-n-init
 unfolding turns
 loop-n-init c = (omega arith, omega arith, refl)
 
-pub read_layer-r-requires : goal.read_layer-r-requires
-read_layer-r-requires c = (omega arith, omega arith)
-
 pub loop-n-preserved : goal.loop-n-preserved
 loop-n-preserved c =
     let n = c.loop-n.n in
@@ -25,9 +22,3 @@ unfolding read_layer_list
 returns c =
     let e : c.loop-n.n - 1 ≡ c.args.max - 1 = omega arith in
     rw e at c.loop-n.invariant.2 ∙ sym (through _ _ c.flag_if-sent.ensures)
-
-pub overflow_step-n : goal.overflow_step-n
-overflow_step-n c = omega arith
-
-pub loop-n-smaller : goal.loop-n-smaller
-loop-n-smaller c = omega arith

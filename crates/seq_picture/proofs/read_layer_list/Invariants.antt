@@ -6,7 +6,4 @@ use Rattle.seq_picture.proofs.read_layer_list.Given as goal
 
 abbrev pub invariant-loop-n : goal.invariant-loop-n
 invariant-loop-n l =
-    (1 ≤ l.n) × (l.n - 1 ≤ l.end - 1) × (l.r ≡ turns (l.n - 1) (λ (i : ℕ). layer l.sent.value l.s (i + 1)) l.initial.r)
-
-abbrev pub decreases-loop-n : goal.decreases-loop-n
-decreases-loop-n l = l.end - l.n
+    (1 ≤ l.n) × (l.n - 1 ≤ l.n-end - 1) × (l.r ≡ turns (l.n - 1) (λ (i : ℕ). layer l.sent.value l.s (i + 1)) l.initial.r)

@@ -4,7 +4,7 @@ use Rattle.seq_residual.specs.Residual.{read_quant}
 use Rattle.seq_residual.proofs.read_quant.Goals as goal
 
 -- the luma offset, read back from its bits
-luma : (c : goal.After-struct_told-1) → to_z w8 (of_z w8 c.signed_if-ydc.result.value) ≡ c.signed_if-ydc.result.value
+luma : (c : goal.After-result-1) → to_z w8 (of_z w8 c.signed_if-ydc.result.value) ≡ c.signed_if-ydc.result.value
 luma c = search rules
 
 pub returns : goal.returns

@@ -1,11 +1,11 @@
 use Rattle.text.specs.Text.{word}
-use Rattle.text.proofs.Puts.{also}
+use Rattle.text.proofs.Chains.{also}
 use Rattle.text.proofs.Rows.{flag}
 use Rattle.seqhdr.specs.Fields.{columns_text}
 use Rattle.seqhdr.proofs.put_columns.Goals as goal
 
-pub returns : goal.returns
+pub returns-clause-text : goal.returns-clause-text
 unfolding columns_text word
-returns c =
-    rw flag
-    (also c.put_field-uniform.ensures (also c.put_field-min.ensures (also c.put_field-max.ensures (also c.put_field-log.ensures c.put_field.ensures))))
+returns-clause-text g c =
+    rw (flag c.args.t.now.uniform, ← c.from.ensures, ← c.from-2.ensures, ← c.from-3.ensures, ← c.from-4.ensures, ← c.from-5.ensures)
+    (also _ _ _ _ c.put_field.ensures.text (also _ _ _ _ c.put_field-2.ensures.text (also _ _ _ _ c.put_field-3.ensures.text (also _ _ _ _ c.put_field-4.ensures.text c.put_field-5.ensures.text))))

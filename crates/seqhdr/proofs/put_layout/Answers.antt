@@ -1,9 +1,9 @@
 use Rattle.text.specs.Text.{word}
-use Rattle.text.proofs.Puts.{also}
+use Rattle.text.proofs.Chains.{also}
 use Rattle.seqhdr.specs.Fields.{seq_layout_text}
 use Rattle.seqhdr.proofs.put_layout.Goals as goal
 
-pub returns : goal.returns
+pub returns-clause-text : goal.returns-clause-text
 unfolding seq_layout_text word
-returns c =
-    also c.put_columns-first.ensures (also c.put_rows-second.ensures (also c.put_starts-third.ensures c.put_starts.ensures))
+returns-clause-text g c =
+    also _ _ _ _ c.put_columns.ensures.text (also _ _ _ _ c.put_rows.ensures.text (also _ _ _ _ c.put_starts.ensures.text c.put_starts-2.ensures.text))

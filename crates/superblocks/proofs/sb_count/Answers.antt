@@ -11,4 +11,4 @@ size c =
 pub returns : goal.returns
 unfolding superblocks
 returns c =
-    c.whole_sbs.ensures ∙ rw (c.u32_to_u64-2.ensures, c.u32_to_u64.ensures, size c)
+    c.whole_sbs.ensures ∙ rw (c.from-2.ensures, c.from.ensures, size c)

@@ -41,19 +41,19 @@ module _ (sz tgt k : â„•) (sz< : sz < 2 ^ 32) (tgt< : tgt < 2 ^ 32) (some : 1 â‰
   no_more h = omega (arith, by, log_is a.0 b.0 sz tgt a.2 a.3 b.2 b.3 some most (rw shifted at h))
 
 pub overflow_shl-sz : goal.overflow_shl-sz
-overflow_shl-sz c = below c.args.sz c.args.tgt c.usub-k.result c.ranges.sz.fits c.ranges.tgt.fits c.requires.0 c.requires.1 c.usub-k.ensures
+overflow_shl-sz c = below c.args.sz c.args.tgt c.saturating_sub-k.result c.ranges.sz.fits c.ranges.tgt.fits c.requires.0 c.requires.1 c.saturating_sub-k.ensures
 
 pub overflow_add-result : goal.overflow_add-result
-overflow_add-result c = omega (arith, below c.args.sz c.args.tgt c.usub-k.result c.ranges.sz.fits c.ranges.tgt.fits c.requires.0 c.requires.1 c.usub-k.ensures)
+overflow_add-result c = omega (arith, below c.args.sz c.args.tgt c.saturating_sub-k.result c.ranges.sz.fits c.ranges.tgt.fits c.requires.0 c.requires.1 c.saturating_sub-k.ensures)
 
 pub overflow_cast-result : goal.overflow_cast-result
-overflow_cast-result c = omega (arith, below c.args.sz c.args.tgt c.usub-k.result c.ranges.sz.fits c.ranges.tgt.fits c.requires.0 c.requires.1 c.usub-k.ensures)
+overflow_cast-result c = omega (arith, below c.args.sz c.args.tgt c.saturating_sub-k.result c.ranges.sz.fits c.ranges.tgt.fits c.requires.0 c.requires.1 c.saturating_sub-k.ensures)
 
 pub returns-then-sz-k : goal.returns-then-sz-k
-returns-then-sz-k c = more c.args.sz c.args.tgt c.usub-k.result c.ranges.sz.fits c.ranges.tgt.fits c.requires.0 c.requires.1 c.usub-k.ensures c.if-sz-k.true
+returns-then-sz-k c = more c.args.sz c.args.tgt c.saturating_sub-k.result c.ranges.sz.fits c.ranges.tgt.fits c.requires.0 c.requires.1 c.saturating_sub-k.ensures c.if-sz-k.true
 
 pub overflow_cast-result-2 : goal.overflow_cast-result-2
-overflow_cast-result-2 c = omega (arith, below c.args.sz c.args.tgt c.usub-k.result c.ranges.sz.fits c.ranges.tgt.fits c.requires.0 c.requires.1 c.usub-k.ensures)
+overflow_cast-result-2 c = omega (arith, below c.args.sz c.args.tgt c.saturating_sub-k.result c.ranges.sz.fits c.ranges.tgt.fits c.requires.0 c.requires.1 c.saturating_sub-k.ensures)
 
 pub returns : goal.returns
-returns c = no_more c.args.sz c.args.tgt c.usub-k.result c.ranges.sz.fits c.ranges.tgt.fits c.requires.0 c.requires.1 c.usub-k.ensures c.if-sz-k.false
+returns c = no_more c.args.sz c.args.tgt c.saturating_sub-k.result c.ranges.sz.fits c.ranges.tgt.fits c.requires.0 c.requires.1 c.saturating_sub-k.ensures c.if-sz-k.false

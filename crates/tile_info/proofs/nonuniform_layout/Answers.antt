@@ -48,7 +48,7 @@ returns-then-is_refusal c =
     let w = c.read_nonuniform-r.ensures in
     let refused = answered w (sym c.is_refusal.ensures ∙ c.if-is_refusal.true) in
     let may = needed a.s.now a.p (layout_in b) a.a a.k c.requires.known _ _ c.at_most_64.ensures c.at_most_64-2.ensures refused in
-    restored z b w refused c.requires.rows_value (search rules) (search rules)
+    restored z b w refused c.requires.room (search rules) (search rules)
     (c.put_starts.ensures ∙ rw (c.old_starts-old_cols.ensures ∙ taken _ _ _ may) refl) (c.put_starts-then-is_refusal.ensures ∙ rw (c.old_starts-old_rows.ensures ∙ taken _ _ _ may) refl)
 
 pub returns-else-is_refusal : goal.returns-else-is_refusal

@@ -14,7 +14,7 @@ returns c =
     let t = k.thdr in
     let put = c.put_tile_info.ensures in
     let a = args_of k.sbmul k.sb128 k.seq_sb128 k.w k.h k.level k.tier in
-    let has = ap has_room put.rows_after ∙ put_room t _ (cols_length t _ c.well_formed.1.1.0) (rows_length t _ c.well_formed.1.1.0) refl in
+    let has = ap has_room put.is_put ∙ put_room t _ (cols_length t _ c.well_formed.1.1.0) (rows_length t _ c.well_formed.1.1.0) refl in
     let w = promised k.s.now k.p t a
-    (whole_read k.s.now k.p t a _ (put.rows_after_2 refl) (c.parse_tile_info_into-r.ensures.fact has) (rw (to_z-of_z f.sbmul, to_z-of_z f.w, to_z-of_z f.h) refl) c.tile_info_of-info.ensures) in
+    (whole_read k.s.now k.p t a _ (put.reads_back refl) (c.parse_tile_info_into-r.ensures.as_by_value has) (rw (to_z-of_z f.sbmul, to_z-of_z f.w, to_z-of_z f.h) refl) c.tile_info_of-info.ensures) in
     record { value = w.0; demand3 = w.1.0; read_over = w.1.1 }

@@ -18,11 +18,11 @@ returns-then-not-has_room c =
     let b = buffers a.info.now a.cols.now a.rows.now in
     let lacks = sym c.has_room.ensures ∙ c.if-not-has_room.true in
     let w = what-is-left a.s.now a.p b (args_of a.sbmul a.sb128 a.seq_sb128 a.w a.h a.level a.tier) (sym (left _ _ _ lacks)) refl refl in
-    record { after_after = w.0; fact = w.1.0; fact_2 = w.1.1.0; fact_3 = w.1.1.1 }
+    record { outcome = w.0; as_by_value = w.1.0; demand3 = w.1.1.0; read_over = w.1.1.1 }
 
 pub read_layout-requires : goal.read_layout-requires
 read_layout-requires c =
-    record { a_value = sym c.in_domain.ensures ∙ c.if-in_domain.true; rows_value = sym c.has_room.ensures ∙ c.if-not-has_room.false }
+    record { in_the_domain = sym c.in_domain.ensures ∙ c.if-in_domain.true; room = sym c.has_room.ensures ∙ c.if-not-has_room.false }
 
 pub returns-then-in_domain : goal.returns-then-in_domain
 unfolding parse_tile_info_into
@@ -35,7 +35,7 @@ returns-then-in_domain c =
     let has = sym c.has_room.ensures ∙ c.if-not-has_room.false in
     let put = c.read_layout.ensures ∙ ap (λ (a' : TileArgs). read_into (parse_tile_info a.s.now a.p (layout_in b) a') b) made in
     let w = what-is-left a.s.now a.p b asked (put ∙ sym (taken _ _ _ has)) (search rules) (search rules) in
-    record { after_after = w.0; fact = w.1.0; fact_2 = w.1.1.0; fact_3 = w.1.1.1 }
+    record { outcome = w.0; as_by_value = w.1.0; demand3 = w.1.1.0; read_over = w.1.1.1 }
 
 pub returns : goal.returns
 unfolding parse_tile_info_into parse_tile_info
@@ -49,4 +49,4 @@ returns c =
     let out = ap in_domain (sym made) ∙ sym c.in_domain.ensures ∙ c.if-in_domain.false in
     let w = what-is-left a.s.now a.p b asked
     (rw c.unread.ensures (sym (taken _ _ _ has ∙ ap (λ (z : TileRead). read_into z b) (left _ _ _ out)))) refl refl in
-    record { after_after = w.0; fact = w.1.0; fact_2 = w.1.1.0; fact_3 = w.1.1.1 }
+    record { outcome = w.0; as_by_value = w.1.0; demand3 = w.1.1.0; read_over = w.1.1.1 }

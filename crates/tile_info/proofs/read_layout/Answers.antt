@@ -5,7 +5,7 @@ use Prim.Native.Nat.{ℕ}
 use Rattle.answers.specs.declared.Answer.TheVariants.{Accepted}
 use Rattle.getbits.specs.Bits.{get_bit, get_flag}
 use Rattle.getbits.specs.Chain.{then}
-use Rattle.getbits.specs.declared.Number.{Number}
+use Rattle.getbits.specs.declared.Read.{Read}
 use Rattle.getbits.specs.declared.Place.{Place}
 use Rattle.getbits.proofs.Chain.{through, taken, left}
 use Rattle.lent.proofs.Calls.{pair}
@@ -35,13 +35,13 @@ accepted : (s : List ℕ) (q : Place) (a : TileArgs) (b : Buffers) {n : Place} {
 unfolding uniform_layout then
 accepted s q a b e = pair (ap (λ (n : Place). record { answer = Accepted; next = n }) e.0) e.1
 
-behind : (s : List ℕ) (p : Place) (b : Number) → b ≡ get_bit s p → b.next ≡ (get_flag s p).next
+behind : (s : List ℕ) (p : Place) (b : Read ℕ) → b ≡ get_bit s p → b.next ≡ (get_flag s p).next
 unfolding get_flag
-behind s p b e = ap (λ (n : Number). n.next) e
+behind s p b e = ap (λ (n : Read ℕ). n.next) e
 
 pub uniform_layout-next-requires : goal.uniform_layout-next-requires
 uniform_layout-next-requires c =
-    record { a_value = c.requires.a_value; known = c.frame_limits-k.ensures; word_value = c.look_ahead-word.ensures; rows_value = c.requires.rows_value }
+    record { in_the_domain = c.requires.in_the_domain; known = c.frame_limits-k.ensures; word_value = c.look_ahead-word.ensures; room = c.requires.room }
 
 pub returns-then-word-ge2147483648 : goal.returns-then-word-ge2147483648
 returns-then-word-ge2147483648 c =
@@ -49,11 +49,11 @@ returns-then-word-ge2147483648 c =
     let b = buffers a.info.now a.cols.now a.rows.now in
     let flag = flag_set a.s.now a.p c.look_ahead-word.result c.look_ahead-word.ensures c.if-word-ge2147483648.true in
     accepted a.s.now _ a.a b c.uniform_layout-next.ensures
-    ∙ ap (λ (z : TileRead). read_into z b) (sym (uniform a.s.now a.p (layout_in b) a.a c.requires.a_value flag))
+    ∙ ap (λ (z : TileRead). read_into z b) (sym (uniform a.s.now a.p (layout_in b) a.a c.requires.in_the_domain flag))
 
 pub nonuniform_layout-requires : goal.nonuniform_layout-requires
 nonuniform_layout-requires c =
-    record { a_value = c.requires.a_value; known = c.frame_limits-k.ensures; rows_value = c.requires.rows_value }
+    record { in_the_domain = c.requires.in_the_domain; known = c.frame_limits-k.ensures; room = c.requires.room }
 
 pub returns : goal.returns
 returns c =
@@ -62,4 +62,4 @@ returns c =
     let flag = flag_unset a.s.now a.p c.look_ahead-word.result c.look_ahead-word.ensures c.if-word-ge2147483648.false in
     c.nonuniform_layout.ensures
     ∙ ap (λ (q : Place). read_into (non_uniform_layout a.s.now q (layout_in b) a.a) b) (behind a.s.now a.p c.get_bit-uniform.result c.get_bit-uniform.ensures)
-    ∙ ap (λ (z : TileRead). read_into z b) (sym (non_uniform a.s.now a.p (layout_in b) a.a c.requires.a_value flag))
+    ∙ ap (λ (z : TileRead). read_into z b) (sym (non_uniform a.s.now a.p (layout_in b) a.a c.requires.in_the_domain flag))

@@ -12,9 +12,9 @@ pub read_tiles-c-requires : goal.read_tiles-c-requires
 read_tiles-c-requires c =
     let a = c.args in
     let k = c.requires.known in
-    let d = domain a.a c.requires.a_value in
+    let d = domain a.a c.requires.in_the_domain in
     let b = buffers a.info.now a.cols.now a.rows.now in
-    ((room b c.requires.rows_value).cols, omega (arith, k.across, (across _ d).most_all), omega (arith, k.wide, (limits _ d).some))
+    ((room b c.requires.room).cols, omega (arith, k.across, (across _ d).most_all), omega (arith, k.wide, (limits _ d).some))
 
 pub returns-then-c : goal.returns-then-c
 returns-then-c c =
@@ -30,7 +30,7 @@ unfolding row_limit
 read_tiles-r-requires c =
     let a = c.args in
     let b = buffers a.info.now a.cols.now a.rows.now in
-    ((room b c.requires.rows_value).rows, omega (arith, c.requires.known.down, (down _ (domain a.a c.requires.a_value)).most_all), omega (arith, c.max_tile_height_sb-max_height.ensures))
+    ((room b c.requires.room).rows, omega (arith, c.requires.known.down, (down _ (domain a.a c.requires.in_the_domain)).most_all), omega (arith, c.max_tile_height_sb-max_height.ensures))
 
 pub returns-then-r : goal.returns-then-r
 returns-then-r c =
@@ -46,7 +46,7 @@ returns-then-r c =
 pub bounds-info-5 : goal.bounds-info-5
 bounds-info-5 c =
     let a = c.args in
-    omega (arith, (room (buffers a.info.now a.cols.now a.rows.now) c.requires.rows_value).bytes)
+    omega (arith, (room (buffers a.info.now a.cols.now a.rows.now) c.requires.room).bytes)
 
 pub returns : goal.returns
 unfolding layout_in
@@ -55,7 +55,7 @@ returns c =
     let b = buffers a.info.now a.cols.now a.rows.now in
     let z = c.read_tiles-c.ensures in
     let y = c.read_tiles-r.ensures in
-    let has = c.requires.rows_value in
+    let has = c.requires.room in
     let w = room b has in
     let k = a.k in
     let widths = (read_sizes 64 a.s.now a.p k.sbw.0 k.max_tile_width_sb.0).sizes in

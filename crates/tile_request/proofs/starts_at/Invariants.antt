@@ -1,6 +1,6 @@
 use mathlib.Core.List.{List}
 use mathlib.Core.Path.{◌≡◌}
-use Prim.Native.Nat.{ℕ, ◌+◌, ◌-◌, ◌*◌, ◌≤◌}
+use Prim.Native.Nat.{ℕ, ◌+◌, ◌*◌}
 use Rattle.program.specs.Input.{two_at}
 use Rattle.tile_layout.specs.Layout.{tabulate, padded}
 use Rattle.tile_request.proofs.starts_at.Given as goal
@@ -10,7 +10,4 @@ abbrev pub start : List ℕ → ℕ → ℕ → ℕ
 start s i k = two_at s (i + 2 * k)
 
 abbrev pub invariant-loop-k : goal.invariant-loop-k
-invariant-loop-k l = (l.k ≤ 65) × (l.starts ≡ padded (tabulate (start l.s l.i) 0 l.k))
-
-abbrev pub decreases-loop-k : goal.decreases-loop-k
-decreases-loop-k l = 65 - l.k
+invariant-loop-k l = (l.starts ≡ padded (tabulate (start l.s l.i) 0 l.k))

@@ -1,7 +1,9 @@
 use mathlib.Core.Path.{refl}
-use Rattle.layout_writing.specs.Write.{reads_as}
+use Rattle.layout_writing.specs.Write.{same_numbers, same_layout, reads_as}
+use Rattle.std.proofs.Math.Bool.{and_assoc}
+use Rattle.tile_write.proofs.Equal.{flags, lists}
 use Rattle.tile_write.proofs.reads_as.Goals as goal
 
 pub returns : goal.returns
-unfolding reads_as
-returns c = rw (c.same_layout.ensures, c.is_refusal.ensures) refl
+unfolding same_numbers same_layout reads_as
+returns c = rw (c.is_refusal.ensures, c.eq.ensures) (simp (flags, lists, and_assoc) refl)

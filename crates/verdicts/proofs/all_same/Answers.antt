@@ -1,7 +1,6 @@
 use native.Mathlib.Omega.{arith}
-use mir.Facts.{to_z-of_z}
-use mir.Syntax.{w64}
-use Rattle.verdicts.proofs.Rows.{other_count, from_first, one_on, at_end, told}
+use mathlib.Core.Path.{◌∙◌}
+use Rattle.verdicts.proofs.Rows.{other_count, one_by_one, told}
 use Rattle.verdicts.proofs.all_same.Goals as goal
 
 pub returns-then-ours-stored : goal.returns-then-ours-stored
@@ -10,20 +9,8 @@ returns-then-ours-stored c =
     let e = other_count a.ours.now a.stored.now c.if-ours-stored.true in
     record { equation = e; tells = told a.ours.now a.stored.now _ e }
 
-pub loop-i-init : goal.loop-i-init
-loop-i-init c =
-    let a = c.args in
-    (omega arith, omega arith, from_first a.ours.now a.stored.now)
-
-pub loop-i-preserved : goal.loop-i-preserved
-loop-i-preserved c =
-    let l = c.loop-i in
-    let a = c.args in
-    (omega arith, l.invariant.1, rw (c.same-good.ensures, to_z-of_z {w = w64} (record { sfits = c.same-arg-1.given })) (one_on a.ours.now a.stored.now l.good l.i (omega arith) (omega arith) l.invariant.2))
-
 pub returns : goal.returns
 returns c =
-    let l = c.loop-i in
     let a = c.args in
-    let e = at_end a.ours.now a.stored.now l.good l.i (omega arith) (omega arith) l.invariant.2 in
+    let e = c.each_stands.ensures ∙ one_by_one a.ours.now a.stored.now (omega arith) in
     record { equation = e; tells = told a.ours.now a.stored.now _ e }

@@ -1,10 +1,9 @@
-use Prim.Native.Nat.{◌*◌, ◌≤◌, ◌-◌}
-use lib.ListN.{take}
-use Rattle.text.specs.Text.{Put, row}
+use Rattle.std.proofs.Common.{◌≡◌, ◌*◌, ◌≤◌, length, take}
+use Rattle.text.specs.Text.{put, row}
 use Rattle.write.proofs.put_bytes.Given as goal
 
 abbrev pub invariant-loop-i : goal.invariant-loop-i
-invariant-loop-i l = (l.i ≤ l.n) × Put (21 * l.i) l.initial.out l.at (row (take l.i l.bytes)) l.out l.next
-
-abbrev pub decreases-loop-i : goal.decreases-loop-i
-decreases-loop-i l = l.n - l.i
+invariant-loop-i g l = record {
+  text : l.out ≡ put g.row.N l.initial.out (row (take l.i l.bytes));
+  size : length (row (take l.i l.bytes)) ≤ 21 * l.i;
+}

@@ -7,10 +7,10 @@ use Rattle.write.proofs.Buffers.{front}
 use Rattle.write.proofs.put_request.Goals as goal
 
 pub slice_bounds-put_written-end : goal.slice_bounds-put_written-end
-slice_bounds-put_written-end c = sym (length-take-le _ _ (search rules))
+slice_bounds-put_written-end g c = sym (length-take-le _ _ (search rules))
 
 pub returns : goal.returns
 unfolding request_text
-returns c =
+returns g c =
     let n = c.two_at-size in
     rw (← n.ensures.0, ← front 0 n.result 65535 (omega (arith, n.ensures.1))) c.put_written.ensures

@@ -7,11 +7,11 @@ use Rattle.film_grain.specs.Coeffs.{chroma_offsets}
 use Rattle.film_grain.proofs.coeffs.chroma_offsets.Goals as goal
 
 -- the numbers, read back from their bits
-back : (c : goal.After-struct_told-6-1) → let r = c.offsets_if-u.result in
+back : (c : goal.After-result-1) → let r = c.offsets_if-u.result in
     (to_z w16 (of_z w16 r.mult) ≡ r.mult) × (to_z w16 (of_z w16 r.luma_mult) ≡ r.luma_mult) × (to_z w16 (of_z w16 r.offset) ≡ r.offset)
 back c = search rules
 
-back_2 : (c : goal.After-struct_told-6-1) → let r = c.offsets_if-v.result in
+back_2 : (c : goal.After-result-1) → let r = c.offsets_if-v.result in
     (to_z w16 (of_z w16 r.mult) ≡ r.mult) × (to_z w16 (of_z w16 r.luma_mult) ≡ r.luma_mult) × (to_z w16 (of_z w16 r.offset) ≡ r.offset)
 back_2 c = search rules
 

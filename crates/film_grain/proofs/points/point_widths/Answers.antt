@@ -13,7 +13,7 @@ use Rattle.getbits.proofs.Chain.{contrary, through}
 use Rattle.getbits.proofs.Fields.{bits_lt}
 use Rattle.getbits.proofs.Parts.{more_there, look_bits, skip_there, first_bits, first_read, last_read}
 use Rattle.seq_fields.specs.Fields.{get_small}
-use Rattle.seq_fields.specs.declared.Small.{Small}
+use Rattle.getbits.specs.declared.Read.{Read}
 use Rattle.film_grain.specs.Points.{no_points, points_from, plane_points}
 use Rattle.film_grain.proofs.Answers.{neither}
 use Rattle.film_grain.proofs.Numbers.{uncut}
@@ -26,14 +26,14 @@ one_holds false true a b c d e h = h refl
 one_holds false false a b c d e h = contrary e refl
 
 -- no widths: no points, or too many
-without : (s : List ℕ) (p : Place) (n : Small) (index-bits scaling-bits : ℕ) → n ≡ get_small s p 4 → eqb n.value 0 || ltb 14 n.value ≡ true
+without : (s : List ℕ) (p : Place) (n : Read ℕ) (index-bits scaling-bits : ℕ) → n ≡ get_small s p 4 → eqb n.value 0 || ltb 14 n.value ≡ true
     → plane_points s p ≡ pick (ltb 14 n.value) (no_points 0 true n.next) (points_from s n.next n.value index-bits scaling-bits)
 unfolding plane_points points_from turns
 without s p n index-bits scaling-bits e h =
     through _ _ e ∙ one_holds (ltb 14 n.value) (eqb n.value 0) _ _ _ _ h (λ z. rw (eqb-true n.value 0 z))
 
 -- the widths
-with_widths : (s : List ℕ) (p : Place) (n index scaling : Small) → n ≡ get_small s p 4 → index ≡ get_small s n.next 3 → scaling ≡ get_small s index.next 2
+with_widths : (s : List ℕ) (p : Place) (n index scaling : Read ℕ) → n ≡ get_small s p 4 → index ≡ get_small s n.next 3 → scaling ≡ get_small s index.next 2
     → eqb n.value 0 || ltb 14 n.value ≡ false
     → plane_points s p ≡ pick (ltb 14 n.value) (no_points 0 true scaling.next) (points_from s scaling.next n.value (1 + index.value) (5 + scaling.value))
 unfolding plane_points

@@ -1,6 +1,6 @@
 use mathlib.Core.List.{◌++◌}
 use mathlib.Core.Path.{◌≡◌}
-use Prim.Native.Nat.{◌-◌, ◌*◌, ◌≤◌}
+use Prim.Native.Nat.{◌*◌, ◌≤◌}
 use lib.ListN.{length, get_or, take, drop}
 use Rattle.tile_layout.specs.Layout.{tabulate, padded}
 use Rattle.superblocks.specs.Counts.{multiplier_of}
@@ -11,6 +11,3 @@ invariant-loop-i l =
     (l.i ≤ l.tiles)
     × (l.at ≡ padded (tabulate (λ k. multiplier_of l.pair.frame_code l.pair.seq_code * get_or (take 65 l.starts) k 0) 0 l.i) ++ drop 65 l.initial.at)
     × (length l.at ≡ length l.initial.at)
-
-abbrev pub decreases-loop-i : goal.decreases-loop-i
-decreases-loop-i l = l.tiles - l.i

@@ -1,16 +1,13 @@
-use Rattle.std.proofs.Common.{◌≡◌, true, false, sym, ◌∙◌, arith, eqb-true}
+use Rattle.std.proofs.Common.{◌≡◌, false, sym, ◌∙◌, arith, eqb-true}
 use Rattle.superblocks.specs.Counts.{multiplier_of}
 use Rattle.superblocks.proofs.Counts.{not_doubled}
 use Rattle.superblocks.proofs.SeqSb.in_frame.Goals as goal
-
-double : (c : goal.After-wrapping_add_u32) → c.doubles.result ≡ true → multiplier_of c.args.pair.frame_code c.args.pair.seq_code ≡ 2
-double c e = eqb-true _ 2 (sym c.doubles.ensures ∙ e)
 
 single : (c : goal.Else-doubles) → c.doubles.result ≡ false → multiplier_of c.args.pair.frame_code c.args.pair.seq_code ≡ 1
 single c e = not_doubled _ _ (sym c.doubles.ensures ∙ e)
 
 pub returns-then-doubles : goal.returns-then-doubles
-returns-then-doubles c = rw (double c c.if-doubles.true) (omega (arith, c.wrapping_add_u32.ensures))
+returns-then-doubles c = rw (eqb-true _ 2 (sym c.doubles.ensures ∙ c.if-doubles.true)) (omega arith)
 
 pub returns : goal.returns
 returns c = rw (single c c.if-doubles.false) (omega arith)

@@ -20,33 +20,33 @@ module _ (n d bits k q left : ℕ) (n< : n < 2 ^ 32) (d< : d < 2 ^ 32) (held : 2
 pub loop-k-init : goal.loop-k-init
 loop-k-init c =
     let a = c.args in
-    let e = c.quotient_bits-k.ensures in
-    (omega arith, rw (ones c.quotient_bits-k.result e.1) (start a.n a.d c.quotient_bits-k.result c.requires e.2))
+    let e = c.quotient_bits-bits.ensures in
+    (omega arith, rw (ones c.quotient_bits-bits.result e.1) (start a.n a.d c.quotient_bits-bits.result c.requires e.2))
 
 pub overflow_shl-part : goal.overflow_shl-part
-overflow_shl-part c = omega (arith, c.loop-k.invariant.0, c.quotient_bits-k.ensures.1)
+overflow_shl-part c = omega (arith, c.loop-k.invariant.0, c.quotient_bits-bits.ensures.1)
 
 pub loop-k-preserved-then-part-left : goal.loop-k-preserved-then-part-left
 loop-k-preserved-then-part-left c =
     let l = c.loop-k in
-    let e = c.quotient_bits-k.ensures in
-    (omega (arith, l.invariant.0), on c.args.n c.args.d c.quotient_bits-k.result l.k l.q l.left c.ranges.n.fits c.ranges.d.fits e.3 c.loop-k-test.true l.invariant.0 l.invariant.1 c.if-part-left.true)
+    let e = c.quotient_bits-bits.ensures in
+    (omega (arith, l.invariant.0), on c.args.n c.args.d c.quotient_bits-bits.result l.k l.q l.left c.ranges.n.fits c.ranges.d.fits e.3 c.loop-k-test.true l.invariant.0 l.invariant.1 c.if-part-left.true)
 
 pub overflow_shl-q : goal.overflow_shl-q
-overflow_shl-q c = omega (arith, c.loop-k.invariant.0, c.quotient_bits-k.ensures.1)
+overflow_shl-q c = omega (arith, c.loop-k.invariant.0, c.quotient_bits-bits.ensures.1)
 
 pub overflow_sub-q-else-part-left : goal.overflow_sub-q-else-part-left
 overflow_sub-q-else-part-left c =
     let l = c.loop-k in
-    let e = c.quotient_bits-k.ensures in
-    rw (shl_one (l.k - 1) 32 (omega (arith, l.invariant.0, e.1))) (off c.args.n c.args.d c.quotient_bits-k.result l.k l.q l.left c.ranges.n.fits c.ranges.d.fits e.3 c.loop-k-test.true l.invariant.0 l.invariant.1 c.if-part-left.false).0
+    let e = c.quotient_bits-bits.ensures in
+    rw (shl_one (l.k - 1) 32 (omega (arith, l.invariant.0, e.1))) (off c.args.n c.args.d c.quotient_bits-bits.result l.k l.q l.left c.ranges.n.fits c.ranges.d.fits e.3 c.loop-k-test.true l.invariant.0 l.invariant.1 c.if-part-left.false).0
 
 pub loop-k-preserved : goal.loop-k-preserved
 loop-k-preserved c =
     let l = c.loop-k in
-    let e = c.quotient_bits-k.ensures in (
+    let e = c.quotient_bits-bits.ensures in (
       omega (arith, l.invariant.0),
-      rw (shl_one (l.k - 1) 32 (omega (arith, l.invariant.0, e.1))) (off c.args.n c.args.d c.quotient_bits-k.result l.k l.q l.left c.ranges.n.fits c.ranges.d.fits e.3 c.loop-k-test.true l.invariant.0 l.invariant.1 c.if-part-left.false).1,
+      rw (shl_one (l.k - 1) 32 (omega (arith, l.invariant.0, e.1))) (off c.args.n c.args.d c.quotient_bits-bits.result l.k l.q l.left c.ranges.n.fits c.ranges.d.fits e.3 c.loop-k-test.true l.invariant.0 l.invariant.1 c.if-part-left.false).1,
     )
 
 pub returns : goal.returns

@@ -23,6 +23,6 @@ returns c =
       max_cols = c.max_log2.ensures ∙ ap (λ (x : ℕ). tile_log2 1 (min x 64)) across;
       max_rows = c.max_log2-2.ensures ∙ ap (λ (x : ℕ). tile_log2 1 (min x 64)) down;
       min_tiles =
-          c.umax.ensures
+          c.max.ensures
           ∙ ap₂ max (c.log2_to-area_log2.ensures ∙ held_area c.args.a c.requires c.max_tile_area_sb.ensures (c.times.ensures ∙ whole c.args.a c.requires across down)) min_cols;
     }

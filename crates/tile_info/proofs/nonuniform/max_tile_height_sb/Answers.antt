@@ -16,20 +16,20 @@ pub returns-then-k-eq0 : goal.returns-then-k-eq0
 unfolding row_limit row_area
 returns-then-k-eq0 c =
     let area : c.times-area.result.0 ≡ sbw c.args.a * sbh c.args.a = let k = c.requires.known in
-    c.times-area.ensures ∙ whole c.args.a c.requires.a_value k.across k.down in
+    c.times-area.ensures ∙ whole c.args.a c.requires.in_the_domain k.across k.down in
     c.max_height.ensures
     ∙ ap (λ (x : ℕ). max 1 (x / c.args.widest_tile.0))
     (div-one _ ∙ area ∙ sym (taken (eqb (min_log2_tiles c.args.a) 0) _ _ (eq-eqb _ 0 (sym c.requires.known.min_tiles ∙ c.if-k-eq0.true))))
 
 pub overflow_add-k : goal.overflow_add-k
-overflow_add-k c = omega (arith, low_tiles _ (domain _ c.requires.a_value), c.requires.known.min_tiles)
+overflow_add-k c = omega (arith, low_tiles _ (domain _ c.requires.in_the_domain), c.requires.known.min_tiles)
 
 pub returns : goal.returns
 unfolding row_limit row_area
 returns c =
     let area : c.times-area.result.0 ≡ sbw c.args.a * sbh c.args.a = let k = c.requires.known in
-    c.times-area.ensures ∙ whole c.args.a c.requires.a_value k.across k.down in
-    let q : (c.args.k.min_log2_tiles + 1) % 32 ≡ min_log2_tiles c.args.a + 1 = omega (arith, c.requires.known.min_tiles, low_tiles _ (domain _ c.requires.a_value)) in
+    c.times-area.ensures ∙ whole c.args.a c.requires.in_the_domain k.across k.down in
+    let q : (c.args.k.min_log2_tiles + 1) % 32 ≡ min_log2_tiles c.args.a + 1 = omega (arith, c.requires.known.min_tiles, low_tiles _ (domain _ c.requires.in_the_domain)) in
     c.max_height-2.ensures
     ∙ ap (λ (x : ℕ). max 1 (x / c.args.widest_tile.0))
     (ap₂ (λ (x y : ℕ). x / 2 ^ y) (area) q

@@ -8,8 +8,8 @@ use Rattle.tile_layout.proofs.Laws.{grow}
 use Rattle.tile_layout.specs.Limits.{tile_log2}
 use Rattle.tile_info.proofs.nonuniform.read_tiles.Goals as goal
 
-pub bounds-starts-tiles : goal.bounds-starts-tiles
-bounds-starts-tiles c =
+pub bounds-starts-z : goal.bounds-starts-z
+bounds-starts-z c =
     omega (arith, c.read_sizes-z.ensures.few, c.requires.0)
 
 pub returns : goal.returns
@@ -21,8 +21,8 @@ returns c =
     let v : c.number.result ≡ a.total.0 = omega (arith, c.number.ensures, c.requires.1) in
     record {
       counted = z.counted;
-      log = c.tiles_log2-log2.ensures ∙ ap (tile_log2 1) z.counted;
-      left = c.below-short.ensures ∙ ap (λ (x : ℕ). ltb x a.total.0) z.summed;
+      log = c.tiles_log2.ensures ∙ ap (tile_log2 1) z.counted;
+      left = c.below.ensures ∙ ap (λ (x : ℕ). ltb x a.total.0) z.summed;
       wides = z.wides;
       stands = z.stands;
       stored = rw (v, z.stored) (grow (starts_from 0 sizes) _ n a.total.0 (length_starts sizes 0 ∙ sym z.counted) (omega (arith, z.few)));

@@ -46,9 +46,9 @@ fill-requires c =
     let a = c.args in
     let q = c.requires in
     let b = q.in_bounds in
-    let al = al a.a a.pair a.n a.log2 q.a_value q.coded b.1 b.2 b.4 in
-    let few = few a.a a.pair a.n a.log2 q.a_value q.coded b.1 b.2 b.4 in
-    let e = split a.a a.pair a.n a.log2 q.a_value q.coded b.1 b.2 b.4 c.even_split-split.result _ _ c.full_count-fsb.ensures c.seq_count-ssb.ensures c.even_split-split.ensures in
+    let al = al a.a a.pair a.n a.log2 q.in_the_domain q.coded b.1 b.2 b.4 in
+    let few = few a.a a.pair a.n a.log2 q.in_the_domain q.coded b.1 b.2 b.4 in
+    let e = split a.a a.pair a.n a.log2 q.in_the_domain q.coded b.1 b.2 b.4 c.even_split-split.result _ _ c.full_count-fsb.ensures c.seq_count-ssb.ensures c.even_split-split.ensures in
     let f = full_count a.a a.n in
     let t = total_count a.a a.n in (
       b.0,
@@ -63,6 +63,6 @@ returns c =
     let a = c.args in
     let q = c.requires in
     let b = q.in_bounds in
-    let few = few a.a a.pair a.n a.log2 q.a_value q.coded b.1 b.2 b.4 in
-    let e = split a.a a.pair a.n a.log2 q.a_value q.coded b.1 b.2 b.4 c.even_split-split.result _ _ c.full_count-fsb.ensures c.seq_count-ssb.ensures c.even_split-split.ensures in
-    (omega (arith, c.number.ensures, e.1, few), c.fill.ensures ∙ simp (e.0, e.1, e.2, b.3, multiplied q.a_value q.coded))
+    let few = few a.a a.pair a.n a.log2 q.in_the_domain q.coded b.1 b.2 b.4 in
+    let e = split a.a a.pair a.n a.log2 q.in_the_domain q.coded b.1 b.2 b.4 c.even_split-split.result _ _ c.full_count-fsb.ensures c.seq_count-ssb.ensures c.even_split-split.ensures in
+    (omega (arith, c.number.ensures, e.1, few), c.fill.ensures ∙ simp (e.0, e.1, e.2, b.3, multiplied q.in_the_domain q.coded))

@@ -1,0 +1,9 @@
+use Rattle.std.proofs.Common.{◌≡◌, ◌*◌, ◌≤◌, length, take}
+use Rattle.text.specs.Text.{put, nexts}
+use Rattle.text.proofs.Text.push_items.Given as goal
+
+abbrev pub invariant-loop-x : goal.invariant-loop-x
+invariant-loop-x g l = record {
+  text : l.self ≡ put g.row.N l.initial.self (nexts (take l.x-index l.rest));
+  size : length (nexts (take l.x-index l.rest)) ≤ 21 * l.x-index;
+}

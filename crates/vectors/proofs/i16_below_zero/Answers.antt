@@ -1,7 +1,0 @@
-use mir.Syntax.{w16}
-use mir.ValLaws.{to_z_pos}
-use Rattle.getbits.proofs.Widths.{minus_one}
-use Rattle.vectors.proofs.i16_below_zero.Goals as goal
-
-pub overflow_sub-result : goal.overflow_sub-result
-overflow_sub-result c = rw (to_z_pos w16 c.args.x c.requires, minus_one c.args.x) (record { sfits = c.requires })
