@@ -19,6 +19,8 @@ use rectangles::tile_rectangles;
 use text::Text;
 use tile_layout::{TileInfo, not_below_0, start_at};
 
+pub mod slices;
+
 // How a picture is drawn: its size in samples, what a sample is across and down, and a thousandth of the drawing's longer side.
 #[derive(Clone, Copy)]
 struct View {

@@ -16,6 +16,8 @@ use text::Text;
 use tile_layout::no_tile_info;
 use tile_request::put_whole_layout;
 
+pub mod slices;
+
 // What a frame's layout is read for besides the frame.
 #[derive(Clone, Copy)]
 pub struct SequenceArgs {

@@ -13,6 +13,8 @@ use std::io;
 use std::io::Read;
 use text::Text;
 
+pub mod slices;
+
 pub fn byte_at(s: &[u8], i: usize) -> u8
     ensures { result ≡ byte_at s.now i }
 {

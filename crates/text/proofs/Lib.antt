@@ -3,3 +3,4 @@ pub mod Digits
 pub mod Rows
 pub mod Filled
 pub mod Chains
+pub mod Placed

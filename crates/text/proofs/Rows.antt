@@ -3,11 +3,12 @@ use mathlib.Core.Bool.{Bool, true, false}
 use mathlib.Core.List.{List, [], ◌∷◌, ◌++◌, append_assoc, append-nil}
 use mathlib.Core.Logic.{⊎_elim}
 use mathlib.Core.Path.{◌≡◌, refl, sym, ap, ◌∙◌}
-use Prim.Native.Nat.{ℕ, ◌+◌, ◌<◌, ◌≤◌, min}
+use Prim.Native.Nat.{ℕ, zero, suc, ◌+◌, ◌<◌, ◌≤◌, min}
 use native.Mathlib.Nat.{min-eq_left, min-eq_right, not-suc-le-zero}
 use native.Mathlib.Numerals.{add-one}
 use native.Mathlib.Omega.{arith}
-use borrow.Author.Tests.{ltb-true}
+use borrow.Author.Tests.{ltb-true, ne_eqb}
+use lib.Dec.{eqb}
 use lib.IntN.{ℤ, pos, negsuc, nat_abs}
 use lib.ListN.{length, take, drop, get_or}
 use lib.Seq.{take-suc, take_all}
@@ -42,6 +43,16 @@ pub row_none : (xs : List ℕ) → length xs < 1 → row xs ≡ []
 unfolding row
 row_none [] h = refl
 row_none (x ∷ xs) h = absurd (omega arith)
+
+-- one number more: it is the first, or stands behind a blank
+pub row_more : (xs : List ℕ) (i : ℕ) → i < length xs → row (take (i + 1) xs) ≡ row (take i xs) ++ pick (eqb i 0) (decimal (get_or xs i 0)) (blank ∷ decimal (get_or xs i 0))
+unfolding row nexts
+row_more [] i h = absurd (omega arith)
+row_more (x ∷ xs) zero h = append-nil (decimal x)
+row_more (x ∷ xs) (suc i) h = rw (ne_eqb (suc i) 0 (λ e. omega arith))
+    (ap (λ (k : ℕ). row (take k (x ∷ xs))) (add-one (suc i))
+    ∙ ap (λ (t : List ℕ). decimal x ++ t) (ap (λ (k : ℕ). nexts (take k xs)) (sym (add-one i)) ∙ nexts_more xs i (omega arith))
+    ∙ sym (append_assoc (decimal x) (nexts (take i xs)) (blank ∷ decimal (get_or xs i 0))))
 
 -- no more numbers than there are
 pub take_min : (xs : List ℕ) (n : ℕ) → take (min n (length xs)) xs ≡ take n xs

@@ -8,6 +8,8 @@ ghost use Rattle.text.specs.Text.{digit as Text·digit};
 
 use std::marker::Model;
 
+pub mod slices;
+
 /// A text of at most `N` bytes.
 #[derive(Drop)]
 pub struct Text<const N: usize> {

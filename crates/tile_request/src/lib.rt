@@ -19,6 +19,7 @@ use text::Text;
 use tile_info::parse_tile_info;
 use tile_layout::{TileInfo, TileRead, no_tile_info};
 
+pub mod slices;
 mod whole;
 
 use whole::{put_logs, put_whole_head};

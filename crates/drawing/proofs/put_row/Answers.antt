@@ -1,8 +1,8 @@
 use mathlib.Core.Path.{sym}
-use Prim.Native.Nat.{ℕ, ◌+◌, ◌*◌, ◌≤◌, ◌<◌}
-use native.Mathlib.Nat.{mul-le-mul}
+use Prim.Native.Nat.{◌+◌, ◌*◌}
 use native.Mathlib.Omega.{arith}
 use borrow.Author.Rules.{rules}
+use Rattle.drawing.proofs.Products.{before}
 use Rattle.drawing.specs.Picture.{tile_text}
 use Rattle.drawing.specs.View.{rect_of}
 use Rattle.rectangles.proofs.Each.{each_more}
@@ -10,10 +10,6 @@ use Rattle.rectangles.specs.Rectangles.{each}
 use Rattle.text.proofs.Puts.{put-nil}
 use Rattle.text.proofs.Chains.{also, sizes}
 use Rattle.drawing.proofs.put_row.Goals as goal
-
--- the tiles before the row
-before : {j cols : ℕ} → j < 64 → cols ≤ 64 → j * cols ≤ 4096
-before {j} h n = let l : j ≤ 64 = omega arith in mul-le-mul l n
 
 pub loop-i-init : goal.loop-i-init
 unfolding each

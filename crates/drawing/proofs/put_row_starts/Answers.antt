@@ -1,9 +1,9 @@
 use mathlib.Core.Path.{sym}
-use Prim.Native.Nat.{ℕ, ◌+◌, ◌*◌, ◌≤◌, ◌<◌}
-use native.Mathlib.Nat.{add-mul, mul-le-mul, mul-le-mul_right}
+use Prim.Native.Nat.{◌*◌}
 use native.Mathlib.Omega.{arith}
 use borrow.Author.Rules.{rules}
 use lib.ListN.{get_or, take, drop}
+use Rattle.drawing.proofs.Products.{first_of}
 use Rattle.drawing.specs.Picture.{left_text}
 use Rattle.drawing.specs.View.{row_of}
 use Rattle.rectangles.proofs.Each.{each_more}
@@ -12,24 +12,18 @@ use Rattle.text.proofs.Puts.{put-nil}
 use Rattle.text.proofs.Chains.{also, sizes}
 use Rattle.drawing.proofs.put_row_starts.Goals as goal
 
--- there are numbers for the row's first tile
-room : (j cols rows most : ℕ) → cols ≤ 64 → rows ≤ 64 → 1 ≤ cols → 4 * (rows * cols) ≤ most → j < rows → (4 * (j * cols) + 4 ≤ most) × (j * cols ≤ 4096)
-room j cols rows most c r some h l =
-    let k : j ≤ 64 = omega arith in
-    (omega (arith, mul-le-mul_right {m = j + 1} {n = rows} cols (omega arith), add-mul j 1 cols), mul-le-mul k c)
-
 pub loop-j-init : goal.loop-j-init
 unfolding each
 loop-j-init g c = record { text = sym (put-nil _ _); size = omega arith }
 
 pub overflow_mul-j : goal.overflow_mul-j
-overflow_mul-j g c = omega (arith, (room _ _ _ _ c.requires.1 c.requires.2 c.requires.3 c.requires.4 c.loop-j-test.true).1)
+overflow_mul-j g c = omega (arith, (first_of _ _ _ _ c.requires.1 c.requires.2 c.requires.3 c.requires.4 c.loop-j-test.true).1)
 
 pub overflow_mul-j-in-loop-j : goal.overflow_mul-j-in-loop-j
-overflow_mul-j-in-loop-j g c = omega (arith, (room _ _ _ _ c.requires.1 c.requires.2 c.requires.3 c.requires.4 c.loop-j-test.true).1)
+overflow_mul-j-in-loop-j g c = omega (arith, (first_of _ _ _ _ c.requires.1 c.requires.2 c.requires.3 c.requires.4 c.loop-j-test.true).1)
 
 pub rect_at-requires : goal.rect_at-requires
-rect_at-requires g c = (room _ _ _ _ c.requires.1 c.requires.2 c.requires.3 c.requires.4 c.loop-j-test.true).0
+rect_at-requires g c = (first_of _ _ _ _ c.requires.1 c.requires.2 c.requires.3 c.requires.4 c.loop-j-test.true).0
 
 pub row-requires : goal.row-requires
 row-requires g c = (c.requires.0, omega (arith, c.requires.2, c.loop-j-test.true))

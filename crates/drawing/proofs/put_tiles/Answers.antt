@@ -1,8 +1,8 @@
 use mathlib.Core.Path.{sym}
-use Prim.Native.Nat.{◌+◌, ◌*◌, ◌<◌}
-use native.Mathlib.Nat.{add-mul, mul-le-mul_right}
+use Prim.Native.Nat.{◌+◌, ◌*◌}
 use native.Mathlib.Omega.{arith}
 use borrow.Author.Rules.{rules}
+use Rattle.drawing.proofs.Products.{rows_before}
 use Rattle.drawing.specs.Picture.{tile_text}
 use Rattle.drawing.specs.View.{rect_of}
 use Rattle.rectangles.proofs.Each.{each_more}
@@ -17,16 +17,7 @@ loop-j-init g c = record { text = sym (put-nil _ _); size = omega arith }
 
 pub put_row-requires : goal.put_row-requires
 put_row-requires g c =
-    let a = c.args in
-    let more : c.loop-j.j < a.rows = c.loop-j-test.true in (
-      search rules,
-      (
-        c.requires.0,
-        c.requires.1,
-        omega (arith, c.requires.2),
-        omega (arith, c.requires.3, mul-le-mul_right {m = c.loop-j.j + 1} {n = a.rows} a.cols (omega arith), add-mul c.loop-j.j 1 a.cols),
-      ),
-    )
+    (search rules, (c.requires.0, c.requires.1, omega (arith, c.requires.2), omega (arith, c.requires.3, rows_before c.args.cols c.loop-j-test.true)))
 
 pub loop-j-preserved : goal.loop-j-preserved
 loop-j-preserved g c =
