@@ -124,7 +124,8 @@ fn put_rest<const N: usize>(out: &mut Text<N>, first: u8, s: &[u8])
 // From the input's bytes to the output's, in a text that is too large to be handed back by value.
 #[tactic(auto, using(text::proofs::Puts::put_fits, std::proofs::lemmas::Grind::common_steps), unfolding(crate::specs::Print::draw_text, text::specs::Text::word))]
 fn draw_text(input: &[u8], out: &mut Text<2014410>)
-    ensures { out.old ≡ [] → out.new ≡ draw_text input.now }
+    ensures text { out.new ≡ put 2014410 out.old (draw_text input.now) }
+    ensures size { length (draw_text input.now) ≤ 2014410 }
 {
     match input {
         [first, rest @ ..] => put_rest(out, *first, rest),

@@ -111,23 +111,23 @@ fn put_rest<const N: usize>(out: &mut Text<N>, first: u8, s: &[u8])
     }
 }
 
-// From the input's bytes to the output's.
-#[tactic(auto, using(text::proofs::Puts::put_fits, std::proofs::lemmas::Grind::common_steps), unfolding(crate::specs::Print::rects_text, program::specs::Output::either_text))]
-fn rects_text(input: &[u8]) -> Text<344088>
-    ensures { result ≡ rects_text input.now }
+// From the input's bytes to the output's, in a text that is too large to be handed back by value.
+#[tactic(auto, using(std::proofs::lemmas::Grind::common_steps), unfolding(crate::specs::Print::rects_text, program::specs::Output::either_text))]
+fn rects_text(input: &[u8], out: &mut Text<344088>)
+    ensures text { out.new ≡ put 344088 out.old (rects_text input.now) }
+    ensures size { length (rects_text input.now) ≤ 344088 }
 {
-    let mut out = Text::new();
     match input {
-        [first, rest @ ..] => put_rest(&mut out, *first, rest),
-        [] => put_refused(&mut out, 4),
+        [first, rest @ ..] => put_rest(out, *first, rest),
+        [] => put_refused(out, 4),
     }
-    out
 }
 
 fn main(rt: HostRuntime) -> io::Result<()> {
     let mut input = [0u8; 65538];
     let n = read_full(&mut rt.reader(), &mut input)?;
-    let out = rects_text(&input[..n]);
+    let mut out: Text<344088> = Text::new();
+    rects_text(&input[..n], &mut out);
     report_written(&rt, rt.write_all(out.as_slice()).is_ok());
     Ok(())
 }

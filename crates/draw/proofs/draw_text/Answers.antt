@@ -1,7 +1,6 @@
 use mathlib.Core.Path.{◌≡◌}
 use native.Mathlib.Omega.{arith}
 use lib.ListN.{length}
-use Rattle.draw.proofs.Titles.{printed}
 use Rattle.draw.specs.Print.{draw_text}
 use Rattle.text.specs.Text.{word}
 use Rattle.draw.proofs.draw_text.Goals as goal
@@ -11,4 +10,4 @@ unfolding draw_text word
 returns-in-empty c =
     let none : length c.args.input.now ≡ 0 = omega (arith, c.in-empty.len_below) in
     let p = c.put_refusal.ensures in
-    λ e. rw none (printed _ _ _ _ e p.text (omega (arith, p.size)))
+    rw none (record { text = p.text; size = omega (arith, p.size) })
